@@ -4,7 +4,8 @@
 usage: measure_calls.py OURS ENGINE [--count 10000] [--rounds 5] [--time-count 1000000] [--calls]
 
 OURS is the program of bench/c/engine.c, ENGINE that of crates/benches. The messages are those of bench/server. Of OURS
-there are two columns: `few` calls what a server can't do without, and `loop` all that examples/bank.c and its loop call.
+there are three columns: `few` calls what a server can't do without, `loop` all that examples/bank.c and its loop call,
+and `parks` the few where each request is parked before it is performed.
 Instructions are those that callgrind counts for a message, without those of making the stream; they don't depend on what
 else the machine does. Times are user time, the best of so many rounds, in which the programs take turns. All programs
 have to print the same.
@@ -28,7 +29,7 @@ FUNCTIONS = r"lr_server_\w+|lr_[gp]\w+|malloc|realloc|free"
 
 def programs_of(given):
     """The programs by name, and the words that each begins with."""
-    ours = {f"C, {calls}": [given.ours, calls] for calls in ("few", "loop")}
+    ours = {f"C, {calls}": [given.ours, calls] for calls in ("few", "loop", "parks")}
     return {"Engine": [given.engine, "engine"], **ours}
 
 

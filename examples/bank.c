@@ -61,7 +61,7 @@ static void change(lr_server *server, uint64_t ticket, struct account *account, 
 static void perform(lr_server *server, const lr_request *asked) {
   char operation[8];
   unsigned char body[LIMIT];
-  lr_place in = {0, 0, LR_ORDER_BIG, 0};
+  lr_place in = {.at = asked->body_at, .order = asked->body_order};
   uint64_t start = 0, length = 0;
   int64_t amount = 0;
   if (lr_server_identify(server, asked->ticket) != 0) return;

@@ -14,14 +14,14 @@ static int64_t sure(int64_t answer) {
 }
 
 /* Performs long long add(in long n), and answers it. */
-static void perform(lr_server *server, uint64_t ticket, int64_t *total) {
-  uint8_t body[8];
+static void perform(lr_server *server, const lr_request *asked, int64_t *total) {
+  uint8_t body[8] = {0};
   int32_t n;
-  lr_place in = {.order = LR_ORDER_BIG}, out = {.order = LR_ORDER_BIG};
-  int64_t size = sure(lr_server_part(server, ticket, LR_PART_BODY, body, sizeof body));
-  sure(lr_get_long(body, (size_t)size, &in, &n));
+  lr_place in = {.at = asked->body_at, .order = asked->body_order}, out = {.order = LR_ORDER_BIG};
+  sure(lr_server_part(server, asked->ticket, LR_PART_BODY, body, sizeof body));
+  sure(lr_get_long(body, sizeof body, &in, &n));
   sure(lr_put_longlong(body, sizeof body, &out, *total + n));
-  sure(lr_server_answer(server, ticket, LR_ORDER_BIG, body, out.next));
+  sure(lr_server_answer(server, asked->ticket, LR_ORDER_BIG, body, out.next));
   *total += n;
 }
 
@@ -46,7 +46,7 @@ int main(void) {
     int64_t size = sure(lr_client_output(&client, octets, sizeof octets));
     for (int64_t at = 0; at < size;) {
       at += sure(lr_server_feed(&server, connection, now, octets + at, (size_t)(size - at)));
-      if (sure(lr_server_asked(&server, &request, sizeof request))) perform(&server, request.ticket, &total);
+      if (sure(lr_server_asked(&server, &request, sizeof request))) perform(&server, &request, &total);
     }
     size = sure(lr_server_output(&server, connection, octets, sizeof octets));
     if (connection == 1) {

@@ -37,7 +37,7 @@ int main() {
       const auto asked = sure(server.asked());
       if (!asked) continue;
       const auto body = sure(server.part(asked->ticket, lr::Part::body));
-      const auto after = total + sure(lr::Reader(body).get_long());
+      const auto after = total + sure(lr::Reader(body, asked->byte_order(), asked->body_at).get_long());
       std::uint8_t results[8];
       lr::Writer out(results);
       sure(out.put_longlong(after));

@@ -34,7 +34,6 @@ struct peer {
   short events;        /* what is waited for */
   bool has_turn;       /* it is in `turns` */
   bool is_held;        /* too many of its requests are parked to feed it */
-  bool is_leaving;     /* it is said goodbye to, where nobody waits for an outcome any more, and fed no more */
   bool is_shut;        /* all is sent, and what comes means nothing */
   int64_t until;       /* the second at which it is parted from */
   size_t got, fed;     /* of what came, `got` octets, the first `fed` ones are fed */
@@ -164,13 +163,6 @@ static void drop(struct peer *peer) {
   if (listener_fd >= 0) listen_for(true);
 }
 
-/* Says goodbye to a peer, and lets go of what came. */
-static void leave(struct peer *peer) {
-  hold(peer, false);
-  peer->fed = peer->got;
-  if (lr_server_is_closed(served, peer->connection) == 0) lr_server_farewell(served, peer->connection);
-}
-
 /* Feeds what came, until enough is due or parked, or the turn is over. */
 static void feed(struct peer *peer) {
   const unsigned char *came = rooms[slot_of(peer)].came;
@@ -243,10 +235,7 @@ static bool await(struct peer *peer) {
 static bool attend(struct peer *peer) {
   ssize_t got = read_piece(peer);
   if (got < 0) return false;
-  if (peer->is_leaving)
-    leave(peer);
-  else
-    feed(peer);
+  feed(peer);
   ssize_t sent = send_due(peer);
   if (sent < 0) return false;
   bool is_closed = lr_server_is_closed(served, peer->connection) != 0;
@@ -259,9 +248,9 @@ static bool attend(struct peer *peer) {
   return await(peer);
 }
 
-/* Says goodbye to a peer. */
+/* Says goodbye to a peer, behind the replies to what it has parked. What comes of it then means nothing. */
 static void part_from(struct peer *peer) {
-  peer->is_leaving = true;
+  lr_server_farewell(served, peer->connection);
   if (!attend(peer)) drop(peer);
 }
 
@@ -340,7 +329,7 @@ static void begin(size_t slot, int fd) {
   peer->events = -1;
   peer->until = seconds() + LOOP_IDLE;
   peer->got = peer->fed = peer->size = peer->sent = 0;
-  peer->is_leaving = peer->is_shut = false;
+  peer->is_shut = false;
   setsockopt(fd, IPPROTO_TCP, TCP_NODELAY, &(int){1}, sizeof(int)); /* (a reply waits for no acknowledgement) */
   if (fcntl(fd, F_SETFL, O_NONBLOCK) != 0 || lr_server_connect(served, last_connection) != LR_OK || !await(peer))
     drop(peer);
@@ -386,10 +375,8 @@ static void on_ready(size_t slot, bool is_broken) {
 
 /* What is done once a second. */
 static void pass(int64_t second) {
-  for (struct peer *peer = peers + FIRST; peer < peers + SLOTS; peer++) {
-    if (peer->fd >= 0 && peer->is_leaving) give_turn(peer);
+  for (struct peer *peer = peers + FIRST; peer < peers + SLOTS; peer++)
     if (peer->fd >= 0) part_in_time(peer, second);
-  }
   lr_server_tick(served, moment());
   if (listener_fd >= 0) listen_for(true);
 }

@@ -81,7 +81,7 @@ static struct account *account_of(const char *name) {
 
 /* ---- the workers ---- */
 
-/* Makes a deposit. Money moves here: what is answered is what came of it. */
+/* Makes a deposit, as a database would that commits it. Money moves here: what is answered is what came of it. */
 static void change(struct job *job) {
   struct account *account = account_of(job->name);
   job->end = REFUSED;
@@ -176,7 +176,7 @@ static void settle(lr_server *server) {
 static void perform(lr_server *server, const lr_request *asked) {
   char operation[8], name[NAME] = {0};
   unsigned char body[LIMIT];
-  lr_place in = {0, 0, LR_ORDER_BIG, 0};
+  lr_place in = {.at = asked->body_at, .order = asked->body_order};
   uint64_t start = 0, length = 0;
   int64_t amount = 0;
   if (lr_server_identify(server, asked->ticket) != 0) return;

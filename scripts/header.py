@@ -20,7 +20,7 @@ import os
 import re
 import sys
 import textwrap
-from dataclasses import dataclass
+from dataclasses import dataclass, replace
 
 sys.path.insert(0, os.path.dirname(os.path.dirname(os.path.realpath(__file__))))
 from scripts.crates import ROOT  # noqa: E402
@@ -36,11 +36,13 @@ ADDED: dict[str, tuple[str, ...]] = {}
 
 @dataclass(frozen=True)
 class Family:
-    """Names of numbers that begin alike: their type in Rust, and what their enumeration is called in Python."""
+    """Names of numbers that begin alike: their type in Rust, and what their enumeration is called in Python; the family
+    before, if any, whose numbers it has too."""
 
     prefix: str
     rust: str
     python: str
+    also: str = ""
 
 
 FAMILIES = [
@@ -50,7 +52,8 @@ FAMILIES = [
     Family("LR_PART_", "u32", "Part"), Family("LR_CONTEXT_", "u32", "ContextId"), Family("LR_TYPE_", "u8", "Code"),
     Family("LR_SET_", "u32", "ServerSetting"), Family("LR_COUNT_", "u32", "Counted"),
     Family("LR_CLIENT_", "u32", "ClientSetting"), Family("LR_ENDED_", "u32", "Ended"),
-    Family("LR_FAULT_", "u32", "Fault"), Family("LR_MSG_", "u32", "MessageType"), Family("LR_IOR_", "u32", "IorPart"),
+    Family("LR_FAULT_", "u32", "Fault"), Family("LR_WHY_", "u32", "Why", "LR_FAULT_"),
+    Family("LR_MSG_", "u32", "MessageType"), Family("LR_IOR_", "u32", "IorPart"),
 ]
 
 
@@ -300,8 +303,12 @@ def doc(text: str, indent: str) -> str:
     return f'{indent}"""{lines[0]}\n' + "".join(f"{indent}{line}\n" for line in lines[1:]) + f'{indent}"""\n'
 
 
-def enum_in_python(family: Family, above: str, names: list[Named]) -> str:
+def enum_in_python(header: Header, family: Family, above: str, names: list[Named]) -> str:
     """An enumeration of Python."""
+    if family.also:
+        others = next(others for one, _, others in header.families if one.prefix == family.also)
+        names = sorted([*names, *(replace(each, short=each.name[len("LR_"):]) for each in others)],
+                       key=lambda each: each.number)
     lines = "".join(f"    {each.short} = {each.number}\n" + (doc(each.comment, "    ") if each.comment else "")
                     for each in names)
     about = doc(above, "    ") if above else doc(f"{family.prefix}.. of lemonrudder.h.", "    ")
@@ -317,7 +324,7 @@ def entry(name: str, before: str, words: list[str], after: str) -> str:
 def python(header: Header) -> str:
     """The table of the module for Python."""
     parts = [PYTHON_HEAD.format(MADE_OF, ", ".join(VERSION.split(".")))]
-    parts += [enum_in_python(*each) for each in header.families]
+    parts += [enum_in_python(header, *each) for each in header.families]
     parts.append("\n\nCONSTANTS: Dict[str, int] = {\n    \"LR_OK\": 0,\n")
     parts += [f'    "{each.name}": {each.number},\n' for _, _, names in header.families for each in names]
     parts.append("}\n\nSTRUCTS: Dict[str, Tuple[Tuple[str, str], ...]] = {\n")

@@ -46,7 +46,7 @@ VALGRIND = ["valgrind", "-q", "--error-exitcode=9", "--leak-check=full"]
 # a program under valgrind may take so many seconds
 PATIENCE = 600
 SEED = 29
-PROGRAMS = ["again.c", "bad.c", "cdr.c", "many.c", "parked.c", "heap.c", "classes.cpp"]
+PROGRAMS = ["again.c", "bad.c", "cdr.c", "kept.c", "many.c", "parked.c", "leaving.c", "heap.c", "classes.cpp"]
 # what the shared library takes of others
 TAKES = {"malloc", "realloc", "free", "memcpy", "memmove", "memset", "memcmp", "bcmp"}
 
@@ -985,6 +985,9 @@ def servants_answer_in_each_way(server: str) -> None:
         for _ in range(2):
             asks(b"desk", "withdraw", refused, number=10)
             asks(b"desk", "nothing", system_exception(1, "TRANSIENT", NO), number=11)
+        for number, operation in enumerate(("keep", "keep_later"), 12):
+            for contexts in ([(7, b"seven")], []):  # (a repeat has none)
+                asks(b"desk", operation, giop.reply(1, b"\0\0\0\6", contexts=contexts), number=number)
         asks(b"desk", "_is_a", reply(1, b"\1"), b"\0\0\0\x0dIDL:Desk:1.0\0")
         serving.is_stopped = True
         asks(b"desk", "stop", reply(1) + CLOSE_CONNECTION)

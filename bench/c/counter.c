@@ -22,14 +22,14 @@ static int64_t total;
 /* Performs the request that waits: `add` or `get`. The total changes where the answer counts. */
 static void perform(lr_server *server, const lr_request *asked) {
   char operation[4];
-  unsigned char body[4], result[8];
-  lr_place in = {0, 0, LR_ORDER_BIG, 0}, out = {0, 0, LR_ORDER_BIG, 0};
+  unsigned char body[8], result[8];
+  lr_place in = {asked->body_at, 0, asked->body_order, 0}, out = {0, 0, LR_ORDER_BIG, 0};
   int32_t n = 0;
   int64_t sum;
   if (lr_server_identify(server, asked->ticket) != 0) return;
   if (lr_server_part(server, asked->ticket, LR_PART_OPERATION, operation, sizeof operation) < 0) return;
   if (lr_server_part(server, asked->ticket, LR_PART_BODY, body, sizeof body) < 0) return;
-  if (operation[0] == 'a') lr_get_long(body, asked->body_size, &in, &n);
+  if (operation[0] == 'a') lr_get_long(body, sizeof body, &in, &n);
   if (__builtin_add_overflow(total, n, &sum)) {
     lr_server_raise(server, asked->ticket, OVERFLOWS, SIZE(OVERFLOWS), LR_ORDER_BIG, NULL, 0);
     return;

@@ -4,8 +4,8 @@
  *     engine CALLS COUNT PIECE [add|repeat|locate|rising|scattered [ENTRIES]]
  *
  * The words after CALLS, the messages and what is printed are those of `benches engine` (crates/benches/src/server.rt).
- * CALLS is which functions are called: `few`, what a server can't do without, or `loop`, all that examples/bank.c and
- * its loop call.
+ * CALLS is which functions are called: `few`, what a server can't do without; `loop`, all that examples/bank.c and its
+ * loop call; or `parks`, the few, where each request is parked before it is performed.
  */
 #include <lemonrudder.h>
 #include <stdbool.h>
@@ -28,7 +28,7 @@ static const unsigned char keyed_message[84] = {
 static const unsigned char locate_message[25] = {'G', 'I', 'O', 'P', 1, 2, 0, 3, 0, 0, 0, 13, 0,
                                                  0,   0,   1,   0,   0, 0, 0, 0, 0, 0, 1, 'c'};
 
-enum calls { FEW, LOOP };
+enum calls { FEW, LOOP, PARKS };
 
 static enum calls calls;
 static lr_server server = LR_INIT;
@@ -49,15 +49,15 @@ static int64_t sure(int64_t answer) {
 }
 
 /* Performs `add` or `get`, whose name has come. */
-static void perform(uint64_t ticket, const char *operation) {
+static void perform(const lr_request *asked, const char *operation) {
   unsigned char body[16], result[8];
-  lr_place in = {0, 0, LR_ORDER_BIG, 0}, out = {0, 0, LR_ORDER_BIG, 0};
+  lr_place in = {asked->body_at, 0, asked->body_order, 0}, out = {0, 0, LR_ORDER_BIG, 0};
   int32_t n = 0;
-  int64_t size = sure(lr_server_part(&server, ticket, LR_PART_BODY, body, sizeof body));
-  if (operation[0] == 'a') sure(lr_get_long(body, (size_t)size, &in, &n));
+  sure(lr_server_part(&server, asked->ticket, LR_PART_BODY, body, sizeof body));
+  if (operation[0] == 'a') sure(lr_get_long(body, sizeof body, &in, &n));
   total += n;
   sure(lr_put_longlong(result, sizeof result, &out, total));
-  sure(lr_server_answer(&server, ticket, LR_ORDER_BIG, result, sizeof result));
+  sure(lr_server_answer(&server, asked->ticket, LR_ORDER_BIG, result, sizeof result));
 }
 
 /* Moves what is due to the answers. */
@@ -74,8 +74,9 @@ static void attend(void) {
   lr_request asked;
   if (sure(lr_server_asked(&server, &asked, sizeof asked)) == 0) return;
   if (calls == LOOP && sure(lr_server_identify(&server, asked.ticket)) != 0) return;
+  if (calls == PARKS) sure(lr_server_park(&server, asked.ticket));
   sure(lr_server_part(&server, asked.ticket, LR_PART_OPERATION, operation, sizeof operation));
-  perform(asked.ticket, operation);
+  perform(&asked, operation);
 }
 
 /* Takes a piece on connection 1 at a moment, and its answers. */
@@ -157,14 +158,14 @@ static void open_server(uint32_t entries) {
 static int which(const char *word, int count, const char *const *words) {
   for (int index = 0; index < count; index++)
     if (strcmp(word, words[index]) == 0) return index;
-  fputs("usage: engine few|loop COUNT PIECE [add|repeat|locate|rising|scattered [ENTRIES]]\n", stderr);
+  fputs("usage: engine few|loop|parks COUNT PIECE [add|repeat|locate|rising|scattered [ENTRIES]]\n", stderr);
   exit(2);
 }
 
 int main(int count, char **words) {
-  static const char *const of_calls[] = {"few", "loop"};
+  static const char *const of_calls[] = {"few", "loop", "parks"};
   static const char *const kinds[] = {"add", "repeat", "locate", "rising", "scattered"};
-  calls = (enum calls)which(count < 4 || count > 6 ? "" : words[1], 2, of_calls);
+  calls = (enum calls)which(count < 4 || count > 6 ? "" : words[1], 3, of_calls);
   size_t messages = strtoul(words[2], NULL, 10), piece = strtoul(words[3], NULL, 10);
   int kind = which(count > 4 ? words[4] : "add", 5, kinds);
   size_t entries = count > 5 ? strtoul(words[5], NULL, 10) : 1024;

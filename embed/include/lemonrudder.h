@@ -339,15 +339,28 @@ LR_API int64_t lr_server_connect(lr_server *server, uint64_t connection);
  * outcome. LR_E_EMPTY, LR_E_ASKING. */
 LR_API int64_t lr_server_lost(lr_server *server, uint64_t connection);
 
-/* Says goodbye: CloseConnection is due (CORBA 3.3 Part 2, 9.4.7), unless the connection's stream has ended. What comes
- * on it afterwards has no meaning. A client that gets it knows that what was not answered was not performed: so it is
- * LR_E_PARKS while somebody waits there for the outcome of a parked request. Feed it no more then, and say goodbye when
- * those are answered. LR_E_EMPTY, LR_E_ASKING, LR_E_CONNECTION, LR_E_PARKS, LR_E_LOST. */
+/* Says goodbye: CloseConnection is due (CORBA 3.3 Part 2, 9.4.7), unless the connection's stream has ended, and 0 is
+ * answered. A client that gets it knows that what was not answered was not performed: so where some wait there for the
+ * outcome of a parked request it answers how many, and CloseConnection is due behind the last of their replies. What
+ * comes on the connection from now on has no meaning. LR_E_EMPTY, LR_E_ASKING, LR_E_CONNECTION, LR_E_LOST. */
 LR_API int64_t lr_server_farewell(lr_server *server, uint64_t connection);
 
-/* 1 where the connection was never opened, is gone, has ended or was said goodbye to, so that its socket is to be
+/* 1 where the connection was never opened, is gone, has ended or CloseConnection was said, so that its socket is to be
  * closed once what is due is sent; else 0. LR_E_EMPTY. */
 LR_API int64_t lr_server_is_closed(lr_server *server, uint64_t connection);
+
+/* Why a connection has ended, until it is lost: LR_WHY_.., or LR_FAULT_.. where its stream has a fault; LR_WHY_OPEN
+ * where it goes on. LR_E_EMPTY, LR_E_CONNECTION (it was never opened, or is lost). */
+enum {
+  LR_WHY_OPEN = 0,
+  LR_WHY_DIRECTION = 32, /* a message came that only a server sends */
+  LR_WHY_GOODBYE = 33,   /* the peer sent CloseConnection */
+  LR_WHY_ERROR = 34,     /* the peer sent MessageError */
+  LR_WHY_FAREWELL = 35,  /* CloseConnection was said */
+  LR_WHY_GIVEN_UP = 36,  /* a request that came on it was given up */
+  LR_WHY_MEMORY = 37     /* memory was short */
+};
+LR_API int64_t lr_server_why(lr_server *server, uint64_t connection);
 
 /* Takes octets of a connection that came at a moment, and answers how many it took: all of them; those up to a request
  * that waits for its outcome, or to a repeat of one that is parked; or, where LR_SET_DUE octets are due on it, those up
@@ -364,8 +377,8 @@ typedef struct {
   uint64_t key_size;       /* of LR_PART_KEY */
   uint64_t operation_size; /* of LR_PART_OPERATION */
   uint64_t body_size;      /* of LR_PART_BODY */
-  uint64_t body_at;        /* where is_raw is: the place of the body's first octet, from which it is aligned; else 0 */
-  uint32_t body_order;     /* where is_raw is: LR_ORDER_..; else LR_ORDER_BIG */
+  uint64_t body_at;        /* the place of the body's first octet, from which it is aligned */
+  uint32_t body_order;     /* LR_ORDER_.. */
   uint32_t is_raw;         /* 1 where the operation is raw */
   uint32_t request_id;
   uint32_t version;
@@ -381,8 +394,8 @@ typedef struct {
 LR_API int64_t lr_server_asked(lr_server *server, lr_request *request, size_t size);
 
 /* Copies a part of the request of a ticket, which waits or is parked, as much of it as the room has octets, and answers
- * its size. The body of an operation with types is its arguments, in big order and aligned from place 0; of a raw one
- * the octets as they came. LR_E_EMPTY, LR_E_TICKET, LR_E_NONE, LR_E_MEMORY. */
+ * its size. The body is octets as they came, in `body_order` and aligned from `body_at`; that of an operation with
+ * types begins with its arguments. LR_E_EMPTY, LR_E_TICKET, LR_E_NONE, LR_E_MEMORY. */
 LR_API int64_t lr_server_part(lr_server *server, uint64_t ticket, uint32_t part, void *room, size_t size);
 
 /* Copies the data of a service context of the request that waits, counted from 0, as much of it as the room has octets,
@@ -402,11 +415,32 @@ LR_API int64_t lr_server_parked_of(lr_server *server, uint64_t connection);
 LR_API int64_t lr_server_wanted(lr_server *server, uint64_t ticket);
 
 /* Answers the request of a ticket, which waits or is parked, by its results: octets of an order, aligned from place 0,
- * and none left over. They are kept as its outcome, where it carries FT_REQUEST. A request that wishes no reply is
- * answered all the same. LR_E_EMPTY, LR_E_RANGE, LR_E_TICKET, LR_E_ASKING, LR_E_OUTCOME, LR_E_MEMORY (it waits or is
- * parked still), and of one that waits LR_E_LOST: the outcome counts and is kept, and its reply is lost. Of a parked
- * one a reply for which memory is short loses its own connection alone, and LR_OK is answered. */
+ * and none left over. As they stand they are kept as its outcome, where it carries FT_REQUEST. A request that wishes no
+ * reply is answered all the same. LR_E_EMPTY, LR_E_RANGE, LR_E_TICKET, LR_E_ASKING, LR_E_OUTCOME, LR_E_MEMORY (it waits
+ * or is parked still), and of one that waits LR_E_LOST: the outcome counts and is kept, and its reply is lost. Of a
+ * parked one a reply for which memory is short loses its own connection alone, and LR_OK is answered. */
 LR_API int64_t lr_server_answer(lr_server *server, uint64_t ticket, uint32_t order, const void *results, size_t size);
+
+/* Whether lr_server_answer would take these results, before what they say is done: LR_OK. Nothing changes. What it
+ * would take is stored as LR_REPLY_NO_EXCEPTION, the order and the octets: lr_server_answer_raw answers by it later, in
+ * another process too. LR_E_EMPTY, LR_E_RANGE, LR_E_TICKET, LR_E_OUTCOME. */
+LR_API int64_t lr_server_can_answer(lr_server *server, uint64_t ticket, uint32_t order, const void *results,
+                                    size_t size);
+
+/* Writes the body of the Reply that raises an exception which the operation declares, in the order of its members, and
+ * answers its size: stored with LR_REPLY_USER_EXCEPTION and the order it is what lr_server_answer_raw takes. Arguments
+ * as of lr_server_raise. LR_E_EMPTY, LR_E_RANGE, LR_E_TICKET, LR_E_OUTCOME, LR_E_MEMORY. */
+LR_API int64_t lr_server_exception(lr_server *server, uint64_t ticket, const void *id, size_t id_size, uint32_t order,
+                                   const void *members, size_t size, void *room, size_t room_size);
+
+/* Service contexts of the replies that the next answer of a ticket makes due, by lr_server_answer, _raise, _system,
+ * _answer_raw or _identify: an IOP::ServiceContextList (CORBA 3.3 Part 2, 7.7), in CDR of an order and aligned from place
+ * 0, or none where size is 0. They take the place of those that were said before, of any ticket, and are not kept: a
+ * repeat gets none. A reply that can't carry them goes without: where they take more than 1048576 octets, or its body
+ * would not stand behind them at a place divisible by 8, as in 1.0 and 1.1 it has to. The first of these that holds:
+ * LR_E_EMPTY, LR_E_RANGE, LR_E_TICKET, LR_E_SHORT and LR_E_VALUE (they are no such list), LR_E_MEMORY. */
+LR_API int64_t lr_server_reply_contexts(lr_server *server, uint64_t ticket, uint32_t order, const void *contexts,
+                                        size_t size);
 
 /* Answers by an exception that the operation declares: its repository id, and its members as of lr_server_answer. It is
  * an outcome as results are: kept, and what each repeat gets.
@@ -635,6 +669,13 @@ LR_API int64_t lr_client_redirect(lr_client *client, int64_t call, const void *k
                                   const void *operation, size_t operation_size, const uint8_t *types, size_t types_size,
                                   uint32_t order, const void *arguments, size_t arguments_size);
 
+/* .. as lr_client_redirect does, by a body of octets with service contexts, as of lr_client_call_raw. The first of these
+ * that holds: LR_E_EMPTY, LR_E_RANGE (also of LR_WISH_NONE: a call that is led elsewhere wished for a reply), LR_E_TEXT,
+ * LR_E_SHORT, LR_E_VALUE, LR_E_FORWARD, LR_E_LONG, LR_E_MEMORY, LR_E_PLACE. */
+LR_API int64_t lr_client_redirect_raw(lr_client *client, int64_t call, uint32_t wish, const void *key, size_t key_size,
+                                      const void *operation, size_t operation_size, uint32_t order,
+                                      const void *contexts, size_t contexts_size, const void *body, size_t body_size);
+
 /* Moves octets that are due on the connection into the room, as many as it has, and answers how many. LR_E_EMPTY. */
 LR_API int64_t lr_client_output(lr_client *client, void *room, size_t size);
 
@@ -716,12 +757,14 @@ LR_API int64_t lr_assembler_context(lr_assembler *assembler, uint32_t index, uin
 
 /*
  * Each writes a whole message into the room, and answers its size. LR_E_ROOM where the room is smaller: nothing is
- * written then. LR_E_RANGE, LR_E_TEXT, LR_E_LONG, LR_E_MEMORY; and of a Request of 1.0 or 1.1, LR_E_PLACE, where its
- * body would stand at a place that is not divisible by 8.
+ * written then. LR_E_RANGE: there is no such version, order, wish or status. A CancelRequest, a LocateReply,
+ * CloseConnection and MessageError take no memory: they answer nothing else. The others may answer LR_E_MEMORY, and
+ * LR_E_LONG, where a message or a part of it is too long.
  */
 
 /* A Request to an object key, with at most one service context, where context_size is not 0 (its id is context_id).
- * The body is octets, written for a place divisible by 8; it is in the order of the message. */
+ * The body is octets, written for a place divisible by 8; it is in the order of the message. LR_E_TEXT (a NUL in the
+ * operation), and in 1.0 and 1.1 LR_E_PLACE, where the body would stand at another place. */
 LR_API int64_t lr_write_request(void *room, size_t size, uint32_t version, uint32_t order, uint32_t request_id,
                                 uint32_t wish, const void *key, size_t key_size,
                                 const void *operation, size_t operation_size, uint32_t context_id,
@@ -745,7 +788,7 @@ LR_API int64_t lr_write_close(void *room, size_t size); /* CloseConnection */
 
 LR_API int64_t lr_write_error(void *room, size_t size); /* MessageError */
 
-/* The data of an FT_REQUEST context, whose id is LR_CONTEXT_FT_REQUEST. The client id has no NUL. */
+/* The data of an FT_REQUEST context, whose id is LR_CONTEXT_FT_REQUEST. LR_E_TEXT (a NUL in the client id). */
 LR_API int64_t lr_write_ft(void *room, size_t size, uint32_t order, const void *client, size_t client_size,
                            int32_t retention_id, uint64_t expiration);
 

@@ -12,6 +12,7 @@
 #ifndef LEMONRUDDER_HPP
 #define LEMONRUDDER_HPP
 
+#include <algorithm>
 #include <array>
 #include <cassert>
 #include <chrono>
@@ -496,6 +497,30 @@ enum class Fault : std::uint32_t {
   memory = LR_FAULT_MEMORY
 };
 
+/* Why a connection of a server has ended; `open` where it goes on. */
+enum class Why : std::uint32_t {
+  open = LR_WHY_OPEN,
+  fault_magic = LR_FAULT_MAGIC,
+  fault_version = LR_FAULT_VERSION,
+  fault_flags = LR_FAULT_FLAGS,
+  fault_type = LR_FAULT_TYPE,
+  fault_cut = LR_FAULT_CUT,
+  fault_too_large = LR_FAULT_TOO_LARGE,
+  fault_unaligned_fragment = LR_FAULT_UNALIGNED_FRAGMENT,
+  fault_stray_fragment = LR_FAULT_STRAY_FRAGMENT,
+  fault_twice_started = LR_FAULT_TWICE_STARTED,
+  fault_too_many_partial = LR_FAULT_TOO_MANY_PARTIAL,
+  fault_body = LR_FAULT_BODY,
+  fault_mixed_order = LR_FAULT_MIXED_ORDER,
+  fault_memory = LR_FAULT_MEMORY,
+  direction = LR_WHY_DIRECTION,
+  goodbye = LR_WHY_GOODBYE,
+  error = LR_WHY_ERROR,
+  farewell = LR_WHY_FAREWELL,
+  given_up = LR_WHY_GIVEN_UP,
+  memory = LR_WHY_MEMORY
+};
+
 /* What a server counts. */
 enum class Counted : std::uint32_t {
   connections = LR_COUNT_CONNECTIONS,
@@ -704,6 +729,14 @@ struct Seeds {
   std::uint64_t high;
 };
 
+/* What became of a request, in the form in which it is stored: the status of its Reply, and the order and the octets of
+ * its body, aligned from place 0. */
+struct Outcome {
+  ReplyStatus status = ReplyStatus::no_exception;
+  Order order = Order::big;
+  std::vector<std::uint8_t> body = {};
+};
+
 /* The connections on which octets became due by the outcomes of parked requests, each named once:
  * `for (auto connection : server.due())`. */
 class Due {
@@ -761,9 +794,16 @@ class Server : public Slot<lr_server> {
 
   Done connect(std::uint64_t connection) noexcept { return detail::done(lr_server_connect(slot(), connection)); }
   Done lost(std::uint64_t connection) noexcept { return detail::done(lr_server_lost(slot(), connection)); }
-  Done farewell(std::uint64_t connection) noexcept { return detail::done(lr_server_farewell(slot(), connection)); }
+  /* Says goodbye, behind the replies to those who wait there for the outcome of a parked request, and answers how many
+   * these are. */
+  Count farewell(std::uint64_t connection) noexcept { return detail::count(lr_server_farewell(slot(), connection)); }
   /* True also of an empty server. */
   bool is_closed(std::uint64_t connection) noexcept { return lr_server_is_closed(slot(), connection) != 0; }
+  Result<Why> why(std::uint64_t connection) noexcept {
+    const std::int64_t answer = lr_server_why(slot(), connection);
+    if (answer < 0) return Error(answer);
+    return static_cast<Why>(answer);
+  }
 
   /* Takes octets that came at a moment, and answers how many it took. */
   Count feed(std::uint64_t connection, std::uint64_t moment, Octets octets) noexcept {
@@ -782,14 +822,10 @@ class Server : public Slot<lr_server> {
     return detail::count(
         lr_server_part(slot(), ticket, static_cast<std::uint32_t>(part), room.data(), room.size()));
   }
-  /* The library makes the body of one that waits of its values, so it is asked for once. */
   Result<std::vector<std::uint8_t>> part(std::uint64_t ticket, Part part) noexcept {
-    lr_request request{};
-    if (part == Part::body) lr_server_asked(slot(), &request, sizeof request);
-    const auto copy = [&](std::uint8_t* room, std::size_t size) {
+    return detail::copied([&](std::uint8_t* room, std::size_t size) {
       return lr_server_part(slot(), ticket, static_cast<std::uint32_t>(part), room, size);
-    };
-    return detail::copied(copy, request.ticket == ticket ? request.body_size : detail::small_room);
+    });
   }
   /* A service context of the request that waits, counted from 0. */
   Result<Tagged> context(std::uint32_t index) noexcept {
@@ -826,6 +862,43 @@ class Server : public Slot<lr_server> {
   Done answer_raw(std::uint64_t ticket, ReplyStatus status, Order order, Octets body) noexcept {
     return detail::done(lr_server_answer_raw(slot(), ticket, static_cast<std::uint32_t>(status),
                                              static_cast<std::uint32_t>(order), body.data(), body.size()));
+  }
+  /* Whether `answer` would take these results, before what they say is done. */
+  Result<bool> can_answer(std::uint64_t ticket, Order order, Octets results) noexcept {
+    const std::int64_t answer = lr_server_can_answer(slot(), ticket, static_cast<std::uint32_t>(order), results.data(),
+                                                     results.size());
+    if (answer == LR_E_OUTCOME) return false;
+    return detail::done(answer).transform([] { return true; });
+  }
+  /* Results, or an exception that the operation declares, as an outcome to store: nothing is answered. `answer_stored`
+   * answers by it later, in another process too. LR_E_OUTCOME: `answer` or `raise` would not take it. */
+  Result<Outcome> stored(std::uint64_t ticket, Order order, Octets results) noexcept {
+    const auto can = can_answer(ticket, order, results);
+    if (!can.ok()) return can.error();
+    if (!*can) return Error(LR_E_OUTCOME);
+    Outcome outcome{ReplyStatus::no_exception, order};
+    if (!detail::resize(outcome.body, results.size())) return Error(LR_E_MEMORY);
+    std::copy(results.begin(), results.end(), outcome.body.begin());
+    return outcome;
+  }
+  Result<Outcome> stored_exception(std::uint64_t ticket, Octets id, Order order, Octets members) noexcept {
+    auto body = detail::copied(
+        [&](std::uint8_t* room, std::size_t size) {
+          return lr_server_exception(slot(), ticket, id.data(), id.size(), static_cast<std::uint32_t>(order),
+                                     members.data(), members.size(), room, size);
+        },
+        detail::small_room + id.size() + members.size());
+    if (!body) return body.error();
+    return Outcome{ReplyStatus::user_exception, order, *std::move(body)};
+  }
+  Done answer_stored(std::uint64_t ticket, const Outcome& outcome) noexcept {
+    return answer_raw(ticket, outcome.status, outcome.order, outcome.body);
+  }
+  /* Service contexts for the replies that the next answer of a request makes due: a list of them, as in RawCall, in an
+   * order; or none. */
+  Done reply_contexts(std::uint64_t ticket, Order order, Octets contexts) noexcept {
+    return detail::done(lr_server_reply_contexts(slot(), ticket, static_cast<std::uint32_t>(order), contexts.data(),
+                                                 contexts.size()));
   }
   /* Answers _is_a and _non_existent: true where that is what it asks. */
   Result<bool> identify(std::uint64_t ticket) noexcept { return detail::truth(lr_server_identify(slot(), ticket)); }
@@ -983,6 +1056,12 @@ class Client : public Slot<lr_client> {
                                            call.operation.size(), call.types.data(), call.types.size(),
                                            static_cast<std::uint32_t>(call.order), call.arguments.data(),
                                            call.arguments.size()));
+  }
+  Done redirect_raw(std::int64_t number, const RawCall& call) noexcept {
+    return detail::done(lr_client_redirect_raw(
+        slot(), number, static_cast<std::uint32_t>(call.wish), call.key.data(), call.key.size(), call.operation.data(),
+        call.operation.size(), static_cast<std::uint32_t>(call.order), call.contexts.data(), call.contexts.size(),
+        call.body.data(), call.body.size()));
   }
 
   /* Cancels a call, and answers whether it was pending. */

@@ -215,6 +215,8 @@ class Later {
   Later& operator=(Later&& other) noexcept {
     std::swap(ticket_, other.ticket_);
     std::swap(mailbox_, other.mailbox_);
+    std::swap(contexts_order_, other.contexts_order_);
+    std::swap(contexts_, other.contexts_);
     return *this;
   }
   ~Later() { system(SystemException::internal, Completed::maybe); }
@@ -253,6 +255,12 @@ class Later {
       return server.answer_raw(ticket, status, order, copy);
     });
   }
+  void answer_stored(const Outcome& outcome) { answer_raw(outcome.status, outcome.order, outcome.body); }
+  /* Service contexts for its replies; the last that are said count. */
+  void reply_contexts(Order order, Octets contexts) {
+    contexts_order_ = order;
+    contexts_ = copy_of(contexts);
+  }
   /* Nothing was done: it is refused for now. */
   void refuse(SystemException name = SystemException::transient, std::uint32_t minor = 0) {
     end([=](Server& server, std::uint64_t ticket) { return server.refuse(ticket, name, minor); });
@@ -265,7 +273,9 @@ class Later {
   void end(Call call) {
     const auto mailbox = std::exchange(mailbox_, nullptr);
     if (!mailbox) return;
-    mailbox->post([call = std::move(call), ticket = ticket_](Server& server) {
+    mailbox->post([call = std::move(call), ticket = ticket_, order = contexts_order_,
+                   contexts = std::move(contexts_)](Server& server) {
+      if (!contexts.empty()) static_cast<void>(server.reply_contexts(ticket, order, contexts));
       Done done = call(server, ticket);
       if (done.error() != LR_E_OUTCOME) return done;
       return server.system(ticket, SystemException::internal, 0, Completed::maybe);
@@ -274,6 +284,8 @@ class Later {
 
   std::uint64_t ticket_ = 0;
   std::shared_ptr<detail::Mailbox> mailbox_;
+  Order contexts_order_ = Order::big;
+  std::vector<std::uint8_t> contexts_;
 };
 
 /* A request that waits, for a servant to answer. */
@@ -287,8 +299,9 @@ class Asked {
   Server& server() noexcept { return server_; }
   Octets key() const noexcept { return key_; }
   std::string_view operation() const noexcept { return Octets(operation_).text(); }
+  /* As it came: it begins with the arguments. */
   Octets body() const noexcept { return body_; }
-  /* A reader of the body. Of an operation with types it can't fail where that is read. */
+  /* A reader of the body. Of an operation with types it can't fail where these are read. */
   Reader arguments() const noexcept { return Reader(Octets(body_), request_.byte_order(), request_.body_at); }
   /* The client id of FT_REQUEST. */
   Result<std::vector<std::uint8_t>> client() noexcept { return part(LR_PART_CLIENT, request_.client_size); }
@@ -307,6 +320,15 @@ class Asked {
   }
   Done answer_raw(ReplyStatus status, Order order, Octets body) noexcept {
     return server_.answer_raw(ticket(), status, order, body);
+  }
+  Result<bool> can_answer(Order order, Octets results) noexcept { return server_.can_answer(ticket(), order, results); }
+  Result<Outcome> stored(Order order, Octets results) noexcept { return server_.stored(ticket(), order, results); }
+  Result<Outcome> stored_exception(Octets id, Order order, Octets members) noexcept {
+    return server_.stored_exception(ticket(), id, order, members);
+  }
+  Done answer_stored(const Outcome& outcome) noexcept { return server_.answer_stored(ticket(), outcome); }
+  Done reply_contexts(Order order, Octets contexts) noexcept {
+    return server_.reply_contexts(ticket(), order, contexts);
   }
   Done refuse(SystemException name = SystemException::transient, std::uint32_t minor = 0) noexcept {
     return server_.refuse(ticket(), name, minor);
@@ -509,9 +531,8 @@ class Loop {
     std::uint64_t connection = 0;  // its remainder by the number of slots is the slot
     short events = -1;             // what is waited for
     bool has_turn = false;
-    bool is_held = false;     // too many of its requests are parked to feed it
-    bool is_leaving = false;  // it is said goodbye to, where nobody waits for an outcome any more, and fed no more
-    bool is_shut = false;     // all is sent, and what comes means nothing
+    bool is_held = false;  // too many of its requests are parked to feed it
+    bool is_shut = false;  // all is sent, and what comes means nothing
     detail::LoopClock::time_point until;
     std::size_t got = 0;  // of what came, of which the first `fed` octets are fed
     std::size_t fed = 0;
@@ -569,13 +590,6 @@ class Loop {
   }
 
   static Octets left_of(const Peer& peer) noexcept { return {peer.came + peer.fed, peer.got - peer.fed}; }
-
-  /* Says goodbye to a peer, and lets go of what came. */
-  void leave(Peer& peer) noexcept {
-    hold(peer, false);
-    peer.fed = peer.got;
-    if (!server_.is_closed(peer.connection)) static_cast<void>(server_.farewell(peer.connection));
-  }
 
   /* Feeds what came, until enough is due or parked, or the turn is over. */
   void feed(Peer& peer) {
@@ -647,10 +661,7 @@ class Loop {
   bool attend(Peer& peer) {
     const ssize_t got = read_piece(peer);
     if (got < 0) return false;
-    if (peer.is_leaving)
-      leave(peer);
-    else
-      feed(peer);
+    feed(peer);
     const ssize_t sent = send_due(peer);
     if (sent < 0) return false;
     const bool is_closed = server_.is_closed(peer.connection);
@@ -666,9 +677,9 @@ class Loop {
     return await(peer);
   }
 
-  /* Says goodbye to a peer. */
+  /* Says goodbye to a peer, behind the replies to what it has parked. What comes of it then means nothing. */
   void part_from(Peer& peer) {
-    peer.is_leaving = true;
+    static_cast<void>(server_.farewell(peer.connection));
     if (!attend(peer)) drop(slot_of(peer));
   }
 
@@ -777,7 +788,6 @@ class Loop {
    * has ended. One that waits for a parked request has more time. */
   void pass(detail::LoopClock::time_point moment) {
     for (std::size_t slot = first; slot < peers_.size(); slot++) {
-      if (peers_[slot] && peers_[slot]->is_leaving) give_turn(*peers_[slot]);
       if (!peers_[slot] || moment < peers_[slot]->until) continue;
       Peer& peer = *peers_[slot];
       if (is_idle(peer))

@@ -24,6 +24,10 @@ static int64_t recall_add(int64_t call) { return lr_client_recall(&client, call,
 
 static int64_t redirect_add(int64_t call) { return lr_client_redirect(&client, call, "other", 5, ADD("\0\0\0\5")); }
 
+static int64_t redirect_raw(int64_t call, uint32_t wish, uint32_t order, const void *contexts, size_t size) {
+  return lr_client_redirect_raw(&client, call, wish, "other", 5, "add", 3, order, contexts, size, "\0\0\0\5", 4);
+}
+
 /* The request id of the one Request that is due, which is of a call, until LATER, to a key; 0 where nothing is due. */
 static uint32_t sent(int32_t call, const char *key) {
   lr_assembler assembler = LR_INIT;
@@ -330,6 +334,54 @@ static void the_first_is_told_of(void) {
   lr_close(&client);
 }
 
+/* A raw call, or one with types, is asked for under another key by a raw one: with the same FT_REQUEST. */
+static void raw_calls_are_redirected(void) {
+  static const unsigned char contexts[] = {0, 0, 0, 1, 0, 0, 0, LR_CONTEXT_SECURITY, 0, 0, 0, 1, 7};
+  open_client();
+  WANT(lr_client_set(&client, LR_CLIENT_KEEP_FORWARD, 1), LR_OK);
+  WANT(lr_client_connected(&client, NOW), LR_OK);
+  for (int32_t call = 1; call <= 2; call++) {
+    if (call == 1) {
+      WANT(lr_client_call_raw(&client, NOW, LATER, LR_WISH_FULL, "c", 1, "add", 3, LR_ORDER_BIG, contexts,
+                              sizeof contexts, "\0\0\0\5", 4),
+           call);
+    } else {
+      WANT(call_add(), call);
+    }
+    WANT(redirect_raw(call, LR_WISH_FULL, LR_ORDER_BIG, contexts, sizeof contexts), LR_E_FORWARD);
+    forward(sent(call, "c"), LR_REPLY_LOCATION_FORWARD);
+    is_led(call);
+    WANT(redirect_raw(call, LR_WISH_FULL, LR_ORDER_BIG, contexts, sizeof contexts), LR_OK);
+    WANT(redirect_raw(call, LR_WISH_FULL, LR_ORDER_BIG, contexts, sizeof contexts), LR_E_FORWARD);
+    nothing_is_led();
+    WANT(sent(call, "other"), 0);
+    WANT(lr_client_resend(&client, LATER), LR_OK);
+    answer(sent(call, "other"));
+    ends(call, LR_ENDED_RETURNED);
+  }
+  lr_close(&client);
+}
+
+static void raw_redirects_are_refused(void) {
+  static const unsigned char ft[] = {0, 0, 0, 1, 0, 0, 0, LR_CONTEXT_FT_REQUEST, 0, 0, 0, 1, 0};
+  open_client();
+  WANT(lr_client_set(&client, LR_CLIENT_KEEP_FORWARD, 1), LR_OK);
+  WANT(lr_client_set(&client, LR_CLIENT_VERSION, 1), LR_OK);
+  WANT(lr_client_connected(&client, NOW), LR_OK);
+  WANT(call_add(), 1);
+  WANT(redirect_raw(1, LR_WISH_NONE, LR_ORDER_BIG, NULL, 0), LR_E_RANGE);
+  WANT(redirect_raw(1, LR_WISH_FULL, 2, NULL, 0), LR_E_RANGE);
+  WANT(redirect_raw(1, 3, LR_ORDER_BIG, NULL, 0), LR_E_RANGE);
+  WANT(redirect_raw(1, LR_WISH_EMPTY, LR_ORDER_BIG, NULL, 0), LR_E_RANGE); /* (not in 1.1) */
+  WANT(redirect_raw(INT64_MAX, LR_WISH_FULL, LR_ORDER_BIG, NULL, 0), LR_E_RANGE);
+  WANT(redirect_raw(1, LR_WISH_FULL, LR_ORDER_BIG, ft, sizeof ft - 1), LR_E_SHORT);
+  WANT(redirect_raw(1, LR_WISH_FULL, LR_ORDER_BIG, ft, sizeof ft), LR_E_VALUE);
+  WANT(redirect_raw(1, LR_WISH_FULL, LR_ORDER_BIG, NULL, 0), LR_E_FORWARD);
+  WANT(lr_client_redirect_raw(&client, 1, LR_WISH_FULL, "d", 1, "a\0", 2, LR_ORDER_BIG, NULL, 0, NULL, 0), LR_E_TEXT);
+  WANT(redirect_raw(-1, LR_WISH_FULL, LR_ORDER_BIG, NULL, 0), LR_E_FORWARD);
+  lr_close(&client);
+}
+
 static void redirects_are_refused(void) {
   open_client();
   WANT(lr_client_set(&client, LR_CLIENT_KEEP_FORWARD, 1), LR_OK);
@@ -360,6 +412,8 @@ int main(void) {
   a_forward_ends_a_call();
   a_forward_leaves_a_call_pending();
   the_first_is_told_of();
+  raw_calls_are_redirected();
   redirects_are_refused();
+  raw_redirects_are_refused();
   return check_end();
 }

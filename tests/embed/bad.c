@@ -75,6 +75,12 @@ static void ask(lr_server *server, uint64_t connection) {
   ticket = request.ticket;
 }
 
+/* The body of an exception of a request. */
+static int64_t exception_of(lr_server *server, uint64_t asked) {
+  return lr_server_exception(server, asked, OVERFLOW_ID, SIZE(OVERFLOW_ID), LR_ORDER_BIG, "\0\0\0\1", 4, room,
+                             sizeof room);
+}
+
 /* A server answers a request on a new connection. */
 static void server_works(lr_server *server, uint64_t connection) {
   lr_request request;
@@ -83,7 +89,8 @@ static void server_works(lr_server *server, uint64_t connection) {
   ask(server, connection);
   WANT(lr_server_asked(server, &request, sizeof request), 1);
   CHECK(request.connection == connection && request.key_size == 1 && request.operation_size == 3);
-  CHECK(request.body_size == 4 && request.body_at == 0 && request.body_order == LR_ORDER_BIG && request.is_raw == 0);
+  CHECK(request.body_size == 4 && request.body_at == message.size - 4 && request.body_order == LR_ORDER_BIG);
+  CHECK(request.is_raw == 0);
   CHECK(request.request_id == 7 && request.version == 2 && request.wish == LR_WISH_FULL && request.has_client == 0);
   CHECK(request.retention_id == 0 && request.client_size == 0 && request.expiration == 0);
   WANT(lr_server_part(server, ticket, LR_PART_BODY, room, sizeof room), 4);
@@ -119,6 +126,10 @@ static int64_t recall_raw(lr_client *client, int64_t call) {
 
 static int64_t redirect_add(lr_client *client, int64_t call) {
   return lr_client_redirect(client, call, "d", 1, "add", 3, one_long, 1, LR_ORDER_BIG, "\0\0\0\5", 4);
+}
+
+static int64_t redirect_raw(lr_client *client, int64_t call) {
+  return lr_client_redirect_raw(client, call, LR_WISH_FULL, "d", 1, "add", 3, LR_ORDER_BIG, NULL, 0, "\0\0\0\5", 4);
 }
 
 /* A client that has made `calls` calls makes one more, which is answered. */
@@ -189,10 +200,14 @@ static lr_catalogue given;
   CALL(server_lost, SERVER, lr_server_lost(slot, 1))                                                                   \
   CALL(server_farewell, SERVER, lr_server_farewell(slot, 1))                                                           \
   CALL(server_is_closed, SERVER, lr_server_is_closed(slot, 1))                                                         \
+  CALL(server_why, SERVER, lr_server_why(slot, 1))                                                                     \
   CALL(server_feed, SERVER, lr_server_feed(slot, 1, NOW, "G", 1))                                                      \
   CALL(server_asked, SERVER, lr_server_asked(slot, &got_request, sizeof got_request))                                  \
   CALL(server_part, SERVER, lr_server_part(slot, ticket, LR_PART_KEY, room, sizeof room))                              \
   CALL(server_answer, SERVER, lr_server_answer(slot, ticket, LR_ORDER_BIG, "\0\0\0\1", 4))                             \
+  CALL(server_can_answer, SERVER, lr_server_can_answer(slot, ticket, LR_ORDER_BIG, "\0\0\0\1", 4))                     \
+  CALL(server_exception, SERVER, exception_of(slot, ticket))                                                           \
+  CALL(server_reply_contexts, SERVER, lr_server_reply_contexts(slot, ticket, LR_ORDER_BIG, NULL, 0))                   \
   CALL(server_raise, SERVER, lr_server_raise(slot, ticket, "IDL:E:1.0", 9, LR_ORDER_BIG, NULL, 0))                     \
   CALL(server_system, SERVER, lr_server_system(slot, ticket, LR_EX_UNKNOWN, 0, LR_COMPLETED_NO))                       \
   CALL(server_answer_raw, SERVER, lr_server_answer_raw(slot, ticket, LR_REPLY_NO_EXCEPTION, LR_ORDER_BIG, NULL, 0))    \
@@ -225,6 +240,7 @@ static lr_catalogue given;
   CALL(client_resend, CLIENT, lr_client_resend(slot, NOW))                                                             \
   CALL(client_forwarded, CLIENT, lr_client_forwarded(slot, &got_completion, sizeof got_completion, room, sizeof room)) \
   CALL(client_redirect, CLIENT, redirect_add(slot, 1))                                                                 \
+  CALL(client_redirect_raw, CLIENT, redirect_raw(slot, 1))                                                             \
   CALL(client_cancel, CLIENT, lr_client_cancel(slot, 1))                                                               \
   CALL(client_tick, CLIENT, lr_client_tick(slot, NOW))                                                                 \
   CALL(client_feed, CLIENT, lr_client_feed(slot, "G", 1))                                                              \
@@ -529,6 +545,9 @@ static void idle_servers_refuse(lr_server *server) {
     WANT(lr_server_part(server, ticket, part, room, sizeof room), LR_E_TICKET);
   WANT(lr_server_context(server, 0, &got_id, room, sizeof room), LR_E_IDLE);
   WANT(lr_server_answer(server, ticket, LR_ORDER_BIG, "\0\0\0\1", 4), LR_E_TICKET);
+  WANT(lr_server_can_answer(server, ticket, LR_ORDER_BIG, "\0\0\0\1", 4), LR_E_TICKET);
+  WANT(exception_of(server, ticket), LR_E_TICKET);
+  WANT(lr_server_reply_contexts(server, ticket, LR_ORDER_BIG, NULL, 0), LR_E_TICKET);
   WANT(lr_server_raise(server, ticket, OVERFLOW_ID, SIZE(OVERFLOW_ID), LR_ORDER_BIG, "\0\0\0\1", 4), LR_E_TICKET);
   WANT(lr_server_system(server, ticket, LR_EX_UNKNOWN, 0, LR_COMPLETED_NO), LR_E_TICKET);
   WANT(lr_server_answer_raw(server, ticket, LR_REPLY_NO_EXCEPTION, LR_ORDER_BIG, NULL, 0), LR_E_TICKET);
@@ -582,6 +601,11 @@ static void other_tickets_are_refused(lr_server *server, uint64_t other) {
   WANT(lr_server_answer(server, other, 2, "\0\0\0\1", 4), LR_E_RANGE);
   WANT(lr_server_answer(server, other, LR_ORDER_BIG, "\0\0\0\1", 4), LR_E_TICKET);
   WANT(lr_server_answer(server, other, LR_ORDER_BIG, NULL, 0), LR_E_TICKET);
+  WANT(lr_server_can_answer(server, other, 2, "\0\0\0\1", 4), LR_E_RANGE);
+  WANT(lr_server_can_answer(server, other, LR_ORDER_BIG, NULL, 0), LR_E_TICKET);
+  WANT(exception_of(server, other), LR_E_TICKET);
+  WANT(lr_server_reply_contexts(server, other, 2, "\0", 1), LR_E_RANGE);
+  WANT(lr_server_reply_contexts(server, other, LR_ORDER_BIG, "\0", 1), LR_E_TICKET);
   WANT(lr_server_raise(server, other, OVERFLOW_ID, SIZE(OVERFLOW_ID), 2, "\0\0\0\1", 4), LR_E_RANGE);
   WANT(lr_server_raise(server, other, OVERFLOW_ID, SIZE(OVERFLOW_ID), LR_ORDER_BIG, "\0\0\0\1", 4), LR_E_TICKET);
   WANT(lr_server_raise(server, other, NULL, 0, LR_ORDER_BIG, NULL, 0), LR_E_TICKET);
@@ -692,9 +716,31 @@ static void typed_outcomes_are_refused(lr_server *server) {
   WANT(lr_server_raise(server, ticket, OVERFLOW_ID, SIZE(OVERFLOW_ID), 2, "\0\0\0\1", 4), LR_E_RANGE);
 }
 
+/* .. which is told before, with the body that an exception has. */
+static void typed_outcomes_are_told_before(lr_server *server) {
+  static const unsigned char body[] = "\31\0\0\0" OVERFLOW_ID "\0\0\0\0\6\0\0";
+  WANT(lr_server_can_answer(server, ticket, 2, "\0\0\0\1", 4), LR_E_RANGE);
+  WANT(lr_server_can_answer(server, ticket, LR_ORDER_BIG, "\0\0\0", 3), LR_E_OUTCOME);
+  WANT(lr_server_can_answer(server, ticket, LR_ORDER_BIG, "\0\0\0\1\0", 5), LR_E_OUTCOME);
+  WANT(lr_server_can_answer(server, ticket, LR_ORDER_BIG, NULL, 0), LR_E_OUTCOME);
+  for (uint32_t order = LR_ORDER_BIG; order <= LR_ORDER_LITTLE; order++)
+    WANT(lr_server_can_answer(server, ticket, order, "\0\0\0\1", 4), LR_OK);
+  WANT(lr_server_exception(server, ticket, "IDL:O:1.0", 9, LR_ORDER_BIG, "\0\0\0\1", 4, room, 9), LR_E_OUTCOME);
+  WANT(lr_server_exception(server, ticket, OVERFLOW_ID, SIZE(OVERFLOW_ID), LR_ORDER_BIG, NULL, 0, room, 9), LR_E_OUTCOME);
+  WANT(lr_server_exception(server, ticket, OVERFLOW_ID, SIZE(OVERFLOW_ID), 2, "\0\0\0\1", 4, room, 9), LR_E_RANGE);
+  memset(room, 0xee, 64);
+  for (size_t size = 0; size <= sizeof body; size += 9) { /* as much as the room has */
+    WANT(lr_server_exception(server, ticket, OVERFLOW_ID, SIZE(OVERFLOW_ID), LR_ORDER_LITTLE, "\6\0\0\0", 4, room, size),
+         36);
+    CHECK(memcmp(room, body, size < 36 ? size : 36) == 0 && room[size < 36 ? size : 36] == 0xee);
+  }
+}
+
 /* The same of a raw operation. */
 static void raw_outcomes_are_refused(lr_server *server) {
   static unsigned char body[1048577];
+  WANT(lr_server_can_answer(server, ticket, LR_ORDER_BIG, "\0\0\0\1", 4), LR_E_OUTCOME);
+  WANT(exception_of(server, ticket), LR_E_OUTCOME);
   WANT(lr_server_answer(server, ticket, LR_ORDER_BIG, "\0\0\0\1", 4), LR_E_OUTCOME);
   WANT(lr_server_answer(server, ticket, LR_ORDER_BIG, NULL, 0), LR_E_OUTCOME);
   WANT(lr_server_raise(server, ticket, OVERFLOW_ID, SIZE(OVERFLOW_ID), LR_ORDER_BIG, "\0\0\0\1", 4), LR_E_OUTCOME);
@@ -714,14 +760,17 @@ static void servers_refuse(void) {
   ask(&server, 1);
   asking_servers_refuse(&server);
   typed_outcomes_are_refused(&server);
+  typed_outcomes_are_told_before(&server);
   WANT(lr_server_answer(&server, ticket, LR_ORDER_LITTLE, "\6\0\0\0", 4), LR_OK);
-  make_reply(1, 6);
+  begin_reply(&wanted, 2, LR_ORDER_LITTLE, 1, LR_REPLY_NO_EXCEPTION);
+  put_number(&wanted, 6, 4);
+  end_message(&wanted);
   CHECK(is_due(&server));
   idle_servers_refuse(&server);
   make_request(2, "c", "add", NULL, 0, 5);
   ask(&server, 1);
   WANT(lr_server_raise(&server, ticket, OVERFLOW_ID, SIZE(OVERFLOW_ID), LR_ORDER_LITTLE, "\6\0\0\0", 4), LR_OK);
-  begin_reply(&wanted, 2, LR_ORDER_BIG, 2, LR_REPLY_USER_EXCEPTION);
+  begin_reply(&wanted, 2, LR_ORDER_LITTLE, 2, LR_REPLY_USER_EXCEPTION);
   put_text(&wanted, OVERFLOW_ID);
   put_number(&wanted, 6, 4);
   end_message(&wanted);

@@ -219,6 +219,25 @@ void a_call_goes_on() {
   CHECK(client->resend(now) && !due_of(*client).empty());
 }
 
+/* So is one by a body of octets. */
+void a_raw_call_goes_on() {
+  auto client = lr::Client::open("A");
+  if (!client) return CHECK(false);
+  lr::RawCall call{"c", "add", later, "\0\0\0\5"_o};
+  CHECK(client->keep_forward(true) && client->connected(now) && client->call_raw(now, call).value_or(0) == 1);
+  CHECK(client->redirect_raw(1, call).error() == LR_E_FORWARD && !due_of(*client).empty());
+  std::array<std::uint8_t, 64> reply{};
+  const auto size = lr::write_reply(reply, {2, lr::Order::big, 1}, lr::ReplyStatus::location_forward, "reference");
+  CHECK(size && client->feed(lr::Octets(reply.data(), *size)));
+  call.key = "other";
+  CHECK(client->redirect_raw(1, call) && client->resend(now));
+  auto assembler = lr::Assembler::open(limits);
+  if (!assembler || !assembler->feed(due_of(*client))) return CHECK(false);
+  const auto key = assembler->part(lr::Part::key);
+  const auto body = assembler->part(lr::Part::body);
+  CHECK(key && lr::Octets(*key).text() == "other" && body && *body == (Vector{0, 0, 0, 5}));
+}
+
 /* How often the library took memory. */
 long allocations = 0;
 
@@ -232,23 +251,26 @@ void* reallocate(void* at, std::size_t size) {
   return std::realloc(at, size);
 }
 
-/* The body of an operation with types is made of its values, which takes memory each time: it is made once. */
-void a_body_is_made_once() {
+/* The body of an operation with types is octets as they came, in either order, and copying it takes no memory. */
+void a_body_is_as_it_came() {
   auto server = open_server();
   if (!server || !server->connect(1)) return CHECK(false);
-  std::array<std::uint8_t, 256> room;
-  const auto size = lr::write_request(room, {}, lr::Wish::full, "c", "add", lr::Octets("\0\0\0\5", 4));
-  CHECK(size && server->feed(1, now, lr::Octets(room).first(*size)));
-  const auto asked = server->asked();
-  if (!asked || !*asked) return CHECK(false);
-  const std::uint64_t ticket = (*asked)->ticket;
-  const long before = allocations;
-  CHECK(server->part(ticket, lr::Part::body, room));
-  const long once = allocations - before;
-  CHECK(once > 0);
-  const auto body = server->part(ticket, lr::Part::body);
-  CHECK(body && *body == (std::vector<std::uint8_t>{0, 0, 0, 5}));
-  CHECK(allocations - before == 2 * once);
+  for (const auto order : {lr::Order::big, lr::Order::little}) {
+    std::array<std::uint8_t, 256> room;
+    lr::GrowingWriter sent(order);
+    CHECK(sent.put_long(5).done());
+    const auto size = lr::write_request(room, {2, order, 1}, lr::Wish::full, "c", "add", sent.octets());
+    CHECK(size && server->feed(1, now, lr::Octets(room).first(*size)));
+    const auto asked = server->asked();
+    if (!asked || !*asked) return CHECK(false);
+    const auto& request = **asked;
+    const long before = allocations;
+    const auto body = server->part(request.ticket, lr::Part::body);
+    CHECK(allocations == before && body && *body == Vector(sent.octets().begin(), sent.octets().end()));
+    CHECK(request.byte_order() == order && request.body_at == *size - 4 && request.body_size == 4);
+    CHECK(body && lr::Reader(*body, request.byte_order(), request.body_at).get_long().value_or(0) == 5);
+    CHECK(server->answer(request.ticket, lr::Order::big, "\0\0\0\6"_o) && !due_of(*server, std::uint64_t{1}).empty());
+  }
 }
 
 /* Each way to answer. */
@@ -291,9 +313,12 @@ void requests_are_answered() {
   CHECK(!server->is_closed(1));
   ask("raw", "any", "abc");
   CHECK(server->goodbye(ticket) && due_of(*server, std::uint64_t{1}).size() == 12 && server->is_closed(1));
-  CHECK(server->connect(2));
-  CHECK(server->farewell(2) && due_of(*server, std::uint64_t{2}).size() == 12 && server->is_closed(2));
-  CHECK(server->connect(3));
+  CHECK(server->connect(2) && server->why(2).value_or(lr::Why::memory) == lr::Why::open);
+  const auto farewell = server->farewell(2);
+  CHECK(farewell && *farewell == 0 && due_of(*server, std::uint64_t{2}).size() == 12 && server->is_closed(2));
+  CHECK(server->why(2).value_or(lr::Why::open) == lr::Why::farewell && server->why(9).error() == LR_E_CONNECTION);
+  CHECK(server->connect(3) && server->feed(3, now, "nonsense, and so on"));
+  CHECK(server->why(3).value_or(lr::Why::open) == lr::Why::fault_magic);
   CHECK(server->give_up(ticket).error() == LR_E_IDLE);
 }
 
@@ -338,17 +363,83 @@ void requests_are_parked() {
   const auto context = server->context(0);
   CHECK(context && context->id == LR_CONTEXT_FT_REQUEST && server->context(1).error() == LR_E_NONE);
   CHECK(server->refuse(third, lr::SystemException::transient, 0) && !due_of(*server, std::uint64_t{1}).empty());
+  CHECK(server->farewell(1).value_or(9) == 2 && !server->is_closed(1) && due_of(*server, std::uint64_t{1}).empty());
   CHECK(server->answer(second, lr::Order::big, "\0\0\0\6"_o));
   CHECK(server->answer(first, lr::Order::big, "\0\0\0\7"_o));
   std::uint64_t named = 0;
   for (const auto connection : server->due()) {
     named += connection;
     const auto octets = due_of(*server, connection);
-    CHECK(octets.size() == (connection == 1 ? 56u : 28u) && octets.back() == 7);
+    CHECK(octets.size() == (connection == 1 ? 56u + 12u : 28u) && octets[connection == 1 ? 55 : 27] == 7);
+    CHECK(server->is_closed(connection) == (connection == 1));
   }
   CHECK(named == 3 && server->due().begin() == server->due().end());
   const auto none = server->next_due();
   CHECK(none && !*none && server->answer(first, lr::Order::big, "\0\0\0\7"_o).error() == LR_E_TICKET);
+}
+
+/* Whether a request that was parked is answered by an outcome, and what is due then. */
+std::optional<Vector> answered_by(const lr::Outcome& outcome) {
+  auto server = open_server();
+  if (!server || !server->connect(1)) return {};
+  const auto ticket = parked(*server, 1, request_of(1, 1));
+  if (!server->answer_stored(ticket, outcome)) return {};
+  return due_of(*server, std::uint64_t{1});
+}
+
+/* Outcomes are stored, and answered by another server; here nothing is. */
+void outcomes_are_stored() {
+  auto server = open_server();
+  if (!server || !server->connect(1)) return CHECK(false);
+  const auto ticket = parked(*server, 1, request_of(1, 1));
+  const auto can = server->can_answer(ticket, lr::Order::little, "\6\0\0\0"_o);
+  const auto cannot = server->can_answer(ticket, lr::Order::big, {});
+  CHECK(can.ok() && *can && cannot.ok() && !*cannot);
+  CHECK(server->can_answer(99, lr::Order::big, {}).error() == LR_E_TICKET);
+  const auto results = server->stored(ticket, lr::Order::little, "\6\0\0\0"_o);
+  CHECK(results && results->status == lr::ReplyStatus::no_exception && results->order == lr::Order::little);
+  CHECK(results && results->body == (Vector{6, 0, 0, 0}));
+  CHECK(server->stored(ticket, lr::Order::big, {}).error() == LR_E_OUTCOME);
+  CHECK(server->stored(99, lr::Order::big, {}).error() == LR_E_TICKET);
+  lr::GrowingWriter members, wanted;
+  const std::string why(100, 'y');
+  CHECK(members.put_string(why).done() && wanted.put_string("IDL:C/Wrong:1.0").put_string(why).done());
+  const auto raised = server->stored_exception(ticket, "IDL:C/Wrong:1.0", lr::Order::big, members.octets());
+  CHECK(raised && raised->status == lr::ReplyStatus::user_exception && raised->order == lr::Order::big);
+  CHECK(raised && raised->body == Vector(wanted.octets().begin(), wanted.octets().end()));
+  CHECK(server->stored_exception(ticket, "IDL:O:1.0", lr::Order::big, members.octets()).error() == LR_E_OUTCOME);
+  CHECK(server->stored_exception(99, "IDL:C/Wrong:1.0", lr::Order::big, members.octets()).error() == LR_E_TICKET);
+  CHECK(due_of(*server, std::uint64_t{1}).empty());
+  for (const auto* stored : {&results, &raised}) {
+    if (!*stored) continue;
+    const lr::Outcome& outcome = **stored;
+    const bool is_big = outcome.order == lr::Order::big;
+    const auto due = answered_by(outcome).value_or(Vector(24));
+    CHECK(due[6] == (is_big ? 0 : 1) && due[is_big ? 19 : 16] == static_cast<std::uint8_t>(outcome.status));
+    CHECK(Vector(due.begin() + 24, due.end()) == outcome.body);
+  }
+  CHECK(!answered_by({lr::ReplyStatus::location_forward_perm, lr::Order::big, {}}));
+}
+
+/* Service contexts of replies are those of one answer. */
+void replies_have_contexts() {
+  auto server = open_server();
+  if (!server || !server->connect(1)) return CHECK(false);
+  lr::GrowingWriter contexts;
+  CHECK(contexts.put_count(1).put_ulong(7).put_octets("seven").done());
+  for (const std::int32_t number : {1, 2}) {
+    const auto ticket = parked(*server, 1, request_of(1, number));
+    CHECK(server->reply_contexts(99, lr::Order::big, {}).error() == LR_E_TICKET);
+    CHECK(server->reply_contexts(ticket, lr::Order::big, "\0\0"_o).error() == LR_E_SHORT);
+    CHECK(number == 2 || server->reply_contexts(ticket, lr::Order::big, contexts.octets()));
+    CHECK(server->answer(ticket, lr::Order::big, "\0\0\0\6"_o));
+    auto assembler = lr::Assembler::open(limits);
+    if (!assembler || !assembler->feed(due_of(*server, std::uint64_t{1}))) return CHECK(false);
+    const auto message = assembler->message();
+    CHECK(message && *message && (*message)->contexts == (number == 1 ? 1u : 0u) && (*message)->body_size == 4);
+    const auto first = assembler->context(0);
+    CHECK(number == 1 ? first && first->id == 7 && lr::Octets(first->data).text() == "seven" : !first);
+  }
 }
 
 /* What a server says of itself, and what it exchanges. */
@@ -687,7 +778,10 @@ int main() {
   objects_move();
   a_call_acts_once();
   a_call_goes_on();
-  a_body_is_made_once();
+  a_raw_call_goes_on();
+  a_body_is_as_it_came();
+  outcomes_are_stored();
+  replies_have_contexts();
   requests_are_answered();
   requests_are_parked();
   servers_tell();

@@ -7,6 +7,8 @@
  * - `bound N` is a limit of the server: once a connection was opened it prints `too late`.
  * - There is no `heard` and no `ending`: the header tells neither.
  * - What is told of a parked request is printed by the numbers of the connections, and on each as it is due.
+ * - `close` is not refused where somebody waits there for a parked request: it prints how many `waits`, and CloseConnection
+ *   is due behind their replies.
  * - `goodbye`: the request that waits is given up, and CloseConnection is due on its connection. Where somebody waits
  *   there for a parked one it is refused: `waits`.
  * - `due N` is how many octets are due on a connection from which on it is fed no more, set before the first one is
@@ -145,7 +147,7 @@ static void put_digits(struct piece *piece, const char *digits) {
 struct reader {
   const unsigned char *octets;
   size_t size, at;
-  bool is_odd;
+  bool is_odd, is_little;
 };
 
 static const unsigned char *get_octets(struct reader *reader, size_t size) {
@@ -158,12 +160,13 @@ static const unsigned char *get_octets(struct reader *reader, size_t size) {
   return reader->octets + reader->at - size;
 }
 
-/* A number in big order, of 4 or 8 octets, to which it is aligned. */
+/* A number of 4 or 8 octets, to which it is aligned. */
 static uint64_t get_number(struct reader *reader, size_t width) {
   uint64_t value = 0;
   get_octets(reader, (width - reader->at % width) % width);
   const unsigned char *octets = get_octets(reader, width);
-  for (size_t index = 0; index < width; index++) value = value << 8 | octets[index];
+  for (size_t index = 0; index < width; index++)
+    value = value << 8 | octets[reader->is_little ? width - 1 - index : index];
   return value;
 }
 
@@ -210,11 +213,12 @@ static void print_located(struct reader *reader) {
 
 /* Prints the first message of octets, and answers how many octets it has; 0 where they begin with none. */
 static size_t print_message(const unsigned char *octets, size_t size) {
-  struct reader reader = {octets, size, 0, false};
+  struct reader reader = {octets, size, 0, false, false};
   bool is_giop = memcmp(get_octets(&reader, 4), "GIOP", 4) == 0;
   const unsigned char *head = get_octets(&reader, 4);
+  reader.is_little = head[2] == LR_ORDER_LITTLE;
   uint64_t length = get_number(&reader, 4);
-  if (!is_giop || reader.is_odd || head[0] != 1 || head[2] != LR_ORDER_BIG || length > size - reader.at) return 0;
+  if (!is_giop || reader.is_odd || head[0] != 1 || head[2] > LR_ORDER_LITTLE || length > size - reader.at) return 0;
   reader.size = reader.at + (size_t)length;
   if (head[3] == LR_MSG_REPLY)
     print_reply(&reader, head[1] == 2);
@@ -346,10 +350,11 @@ static struct ended do_lost(uint64_t connection) {
 }
 
 static struct ended do_close(uint64_t connection) {
+  char how[64] = "done";
   int64_t answer = lr_server_farewell(&server, connection);
-  if (answer == LR_E_PARKS) return refused_by("waits");
-  if (answer != LR_OK && answer != LR_E_CONNECTION) return refused(answer);
-  print_entry(connection, answer == LR_OK ? "done" : "refused");
+  if (answer < 0 && answer != LR_E_CONNECTION) return refused(answer);
+  if (answer > 0) snprintf(how, sizeof how, "waits %" PRId64, answer);
+  print_entry(connection, answer < 0 ? "refused" : how);
   return done;
 }
 
@@ -385,7 +390,7 @@ static struct ended read_piece(const char *name, char *words) {
   return do_piece(connection, moment, &piece);
 }
 
-/* Hands in an outcome. A total is written in big order or in little order. */
+/* Hands in an outcome. A total is written in big order or in little order, and so it goes out. */
 static int64_t hand_in(uint64_t ticket, const char *outcome) {
   struct octets results = {.size = 0};
   if (strcmp(outcome, "overflow") == 0)

@@ -7,6 +7,8 @@ has no such thing, or another:
 - An error says that there is no place to park a request, and not which places are taken.
 - The greatest length of a client's id is set before the first connection is opened: afterwards `bound` is too late,
   also while a request waits. Rows in which it changes later are left out.
+- Goodbye is not refused on a connection where somebody waits, but said behind the replies: rows in which it is refused
+  are left out.
 - What became of each request (`heard`) is not told, but counted; why a connection ended (`ending`) is not told.
 - The connections on which octets became due by the outcome of a parked request are named in no order that is promised:
   what is told is compared by the numbers of the connections, and in its order on each.
@@ -71,8 +73,9 @@ class Embedded(deeds.Owned):
         # how many octets are due on a connection from which on it is fed no more; what is due on each, with its octets;
         # and whether it is left there
         self.limit, self.due, self.is_held = DUE, {}, False
-        # the connections that were opened, and those of them that were not lost
-        self.opened, self.known = set(), set()
+        # the connections that were opened, those of them that were not lost, and those on which goodbye is to be said
+        # once nobody waits there
+        self.opened, self.known, self.leaving = set(), set(), set()
 
     def written(self, connection: int, words: str, size: int) -> str:
         self.due.setdefault(connection, []).append((words, size))
@@ -87,13 +90,40 @@ class Embedded(deeds.Owned):
 
     def told(self, replies: list[tuple[int, str]]) -> list[str]:
         if self.is_held:
+            for connection in sorted({connection for connection, _ in replies}):
+                self.part(connection)
             return [f"{connection} named" for connection in sorted({connection for connection, _ in replies})]
-        return super().told(replies)
+        lines = super().told(replies)
+        for connection in {connection for connection, _ in replies}:
+            goodbye = self.part(connection)
+            if goodbye:
+                last = max(at for at, (other, _) in enumerate(replies) if other == connection)
+                lines[last] += f"\n{connection} done{goodbye}"
+        return "\n".join(lines).split("\n") if lines else []
+
+    def part(self, connection: int) -> str:
+        """Says goodbye on a connection that is leaving, once nobody waits there."""
+        if connection not in self.leaving or self.waits_on(connection):
+            return ""
+        self.leaving.discard(connection)
+        self.wires[connection].is_shut = True
+        return self.written(connection, " close", HEADER)
 
     def do_asks(self, connection: int, now: int, some: list[Asked]) -> None:
-        if not self.is_going(connection):
+        if not self.is_going(connection) or connection in self.leaving:
             self.do_flow()
-        super().do_asks(connection, now, some)
+        if connection not in self.leaving:
+            return super().do_asks(connection, now, some)
+        self.clock = max(self.clock, now)
+        line = f"asks {connection} {now} {','.join(map(deeds.request_words, some))}"
+        return self.deed(line, f"{connection} done")
+
+    def do_close(self, number: int) -> None:
+        if not (self.is_going(number) and self.waits_on(number)):
+            return super().do_close(number)
+        self.leaving.add(number)
+        count = sum(waiter == number for parked in self.parked.values() for waiter, _ in parked.waiting)
+        return self.deed(f"close {number}", f"{number} waits {count}")
 
     def do_hold(self) -> None:
         self.give("hold")
@@ -113,6 +143,7 @@ class Embedded(deeds.Owned):
     def do_lost(self, number: int) -> None:
         self.due.pop(number, None)
         self.known.discard(number)
+        self.leaving.discard(number)
         super().do_lost(number)
 
     def do_connections(self) -> None:
@@ -184,11 +215,16 @@ def is_bounded_late(given: list[str]) -> bool:
     return "bound" in words and "opened" in words[:words.index("bound")]
 
 
+def is_refused_goodbye(printed: list[str]) -> bool:
+    """Whether goodbye is refused where somebody waits."""
+    return any(re.fullmatch(r"refused \d+ waits", line) for line in printed)
+
+
 def rows() -> tuple[list[str], list[str]]:
     """The lines of the rows that the header can play, and what is printed for them."""
     given, printed = blocks("stdin"), blocks("stdout")
     assert len(given) == len(printed), "another number of rows"
-    pairs = [pair for pair in zip(given, printed) if not is_bounded_late(pair[0])]
+    pairs = [pair for pair in zip(given, printed) if not is_bounded_late(pair[0]) and not is_refused_goodbye(pair[1])]
     lines = [line for _, row in pairs for line in row]
     return [line for row, _ in pairs for line in row], [re.sub(r"unparked \w+$", "unparked", line) for line in lines]
 

@@ -497,8 +497,11 @@ static uint32_t sent_id(void) {
   return CHECK(size > 16) ? (uint32_t)room[14] << 8 | room[15] : 0;
 }
 
+/* A list of one service context. */
+static const unsigned char one_context[] = {0, 0, 0, 1, 0, 0, 0, LR_CONTEXT_SECURITY, 0, 0, 0, 1, 7};
+
 /* A call of before is forwarded, and asked for by another key. */
-static void goes_on(void) {
+static void go_on(bool is_raw) {
   lr_completion led;
   struct octets reply;
   client = (lr_client)LR_INIT;
@@ -518,7 +521,13 @@ static void goes_on(void) {
   }
   WANT(lr_client_forwarded(&client, &led, sizeof led, room, sizeof room), 1);
   CHECK(led.call == 3 && led.body_size == 9 && memcmp(room, "reference", 9) == 0);
-  AGAIN(lr_client_redirect(&client, 3, "d", 1, "add", 3, one_long, 1, LR_ORDER_BIG, "\0\0\0\5", 4), LR_OK);
+  if (is_raw) {
+    AGAIN(lr_client_redirect_raw(&client, 3, LR_WISH_FULL, "d", 1, "add", 3, LR_ORDER_BIG, one_context,
+                                 sizeof one_context, "\0\0\0\5", 4),
+          LR_OK);
+  } else {
+    AGAIN(lr_client_redirect(&client, 3, "d", 1, "add", 3, one_long, 1, LR_ORDER_BIG, "\0\0\0\5", 4), LR_OK);
+  }
   if (lr_client_resend(&client, NOW) == LR_E_LOST) {
     CHECK(tell());
     WANT(lr_client_is_connected(&client), 0);
@@ -533,16 +542,19 @@ static void goes_on(void) {
   lr_close(&client);
 }
 
+static void goes_on(void) { go_on(false); }
+
+static void goes_on_raw(void) { go_on(true); }
+
 /* A raw call with a service context, and a oneway. */
 static void calls_raw(void) {
-  static const unsigned char contexts[] = {0, 0, 0, 1, 0, 0, 0, LR_CONTEXT_SECURITY, 0, 0, 0, 1, 7};
   client = (lr_client)LR_INIT;
   memset(completed, 0, sizeof completed);
   AGAIN(lr_client_open(&client, "A", 1), LR_OK);
   for (uint32_t what = LR_CLIENT_VERSION; what <= LR_CLIENT_PARTIALS; what++)
     AGAIN(lr_client_set(&client, what, what == LR_CLIENT_MESSAGE ? 4096 : 2), LR_OK);
-  AGAIN(lr_client_call_raw(&client, NOW, LATER, LR_WISH_FULL, "c", 1, "add", 3, LR_ORDER_BIG, contexts, sizeof contexts,
-                           "\0\0\0\5", 4),
+  AGAIN(lr_client_call_raw(&client, NOW, LATER, LR_WISH_FULL, "c", 1, "add", 3, LR_ORDER_BIG, one_context,
+                           sizeof one_context, "\0\0\0\5", 4),
         1);
   AGAIN(lr_client_recall_raw(&client, 4, NOW, LATER, LR_WISH_NONE, "c", 1, "tell", 4, LR_ORDER_BIG, NULL, 0, NULL, 0),
         LR_OK);
@@ -629,11 +641,13 @@ static void writes_messages(void) {
   AGAIN(lr_write_reply(room, sizeof room, 2, LR_ORDER_BIG, 3, LR_REPLY_NO_EXCEPTION, "\0\0\0\6", 4),
         (int64_t)exchange.reply.size);
   CHECK(equal(room, exchange.reply.size, &exchange.reply));
-  AGAIN(lr_write_cancel(room, sizeof room, 2, LR_ORDER_BIG, 7), 16);
   AGAIN(lr_write_locate_request(room, sizeof room, 0, LR_ORDER_BIG, 7, "c", 1), 21);
-  AGAIN(lr_write_locate_reply(room, sizeof room, 2, LR_ORDER_BIG, 7, 1), 20);
-  AGAIN(lr_write_close(room, sizeof room), 12);
-  AGAIN(lr_write_error(room, sizeof room), 12);
+  long before = made; /* (the others take no memory) */
+  WANT(lr_write_cancel(room, sizeof room, 2, LR_ORDER_BIG, 7), 16);
+  WANT(lr_write_locate_reply(room, sizeof room, 2, LR_ORDER_BIG, 7, 1), 20);
+  WANT(lr_write_close(room, sizeof room), 12);
+  WANT(lr_write_error(room, sizeof room), 12);
+  CHECK(made == before);
 }
 
 /* CDR takes no memory. */
@@ -658,6 +672,7 @@ static const struct {
                {"calls_raw", calls_raw},
                {"calls", calls},
                {"goes_on", goes_on},
+               {"goes_on_raw", goes_on_raw},
                {"reads_a_stream", reads_a_stream},
                {"refers", refers},
                {"writes_messages", writes_messages},

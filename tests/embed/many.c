@@ -94,11 +94,12 @@ static void scatter(void) {
 /* Performs the request that waits: it gives the number of requests so far. */
 static void perform(const struct connection *at) {
   lr_request asked;
-  unsigned char body[8], client[24], result[8];
-  lr_place in = {0, 0, LR_ORDER_BIG, 0}, out = {0, 0, LR_ORDER_LITTLE, 0};
+  unsigned char body[16], client[24], result[8];
+  lr_place out = {0, 0, LR_ORDER_LITTLE, 0};
   int64_t request = -1;
   WANT(lr_server_asked(&server, &asked, sizeof asked), 1);
-  WANT(lr_server_part(&server, asked.ticket, LR_PART_BODY, body, sizeof body), sizeof body);
+  lr_place in = {asked.body_at, 0, asked.body_order, 0};
+  WANT(lr_server_part(&server, asked.ticket, LR_PART_BODY, body, sizeof body), (int64_t)asked.body_size);
   WANT(lr_get_longlong(body, sizeof body, &in, &request), LR_OK);
   if (!CHECK(request >= 0 && request < REQUESTS)) exit(check_end());
   const char *name = client_of[request % CLIENTS];
@@ -115,7 +116,7 @@ static void perform(const struct connection *at) {
 static bool is_answered(const struct connection *at, const struct sent *sent) {
   struct octets wanted;
   unsigned char room[256];
-  begin_reply(&wanted, sent->asking.version, LR_ORDER_BIG, sent->asking.request_id, LR_REPLY_NO_EXCEPTION);
+  begin_reply(&wanted, sent->asking.version, LR_ORDER_LITTLE, sent->asking.request_id, LR_REPLY_NO_EXCEPTION);
   put_number(&wanted, (uint64_t)outcome_of[sent->request], 8);
   end_message(&wanted);
   int64_t size = lr_server_output(&server, at->number, room, sizeof room);

@@ -10,7 +10,6 @@ enum { NOW = 1000, LATER = 2000 };
 #define WRONG "IDL:C/Wrong:1.0"
 
 static const uint8_t one_long[] = {LR_TYPE_LONG};
-static const unsigned char goodbye[] = {'G', 'I', 'O', 'P', 1, 0, 0, 5, 0, 0, 0, 0};
 static unsigned char room[8192];
 static struct octets message, wanted;
 static lr_server server = LR_INIT;
@@ -167,7 +166,7 @@ static void parked_are_answered_each_way(void) {
   WANT(lr_server_answer(&server, ticket, 2, "\0\0\0\7", 4), LR_E_RANGE);
   WANT(lr_server_identify(&server, ticket), 0);
   WANT(lr_server_raise(&server, ticket, WRONG, SIZE(WRONG), LR_ORDER_LITTLE, "\7\0\0\0", 4), LR_OK);
-  begin_reply(&wanted, 2, LR_ORDER_BIG, 2, LR_REPLY_USER_EXCEPTION);
+  begin_reply(&wanted, 2, LR_ORDER_LITTLE, 2, LR_REPLY_USER_EXCEPTION);
   put_text(&wanted, WRONG);
   put_number(&wanted, 7, 4);
   end_message(&wanted);
@@ -370,40 +369,6 @@ static void parked_outlive(void) {
   WANT(answer(one, 5), LR_OK);
   replies(2, 5, 5);
   WANT(lr_server_count(&server, LR_COUNT_KEPT), 0);
-}
-
-/* Goodbye is not said while somebody waits on the connection for the outcome of a parked request. */
-static void goodbye_comes_after_replies(void) {
-  open_server();
-  connect(3);
-  uint64_t one = park(1, 1, 1), two = park(2, 2, 2);
-  join(1, 3, 2);
-  WANT(lr_server_farewell(&server, 3), LR_OK);
-  WANT(lr_server_is_closed(&server, 3), 1);
-  WANT(lr_server_output(&server, 3, room, sizeof room), sizeof goodbye);
-  make_request(9, "c", "add", 9, LR_WISH_FULL);
-  uint64_t waits = fed(1);
-  WANT(lr_server_farewell(&server, 1), LR_E_ASKING);
-  WANT(lr_server_goodbye(&server, waits), LR_E_PARKS);
-  WANT(answer(waits, 9), LR_OK); /* (it waits still) */
-  replies(1, 9, 9);
-  WANT(lr_server_farewell(&server, 1), LR_E_PARKS);
-  WANT(lr_server_is_closed(&server, 1), 0);
-  WANT(answer(two, 2), LR_OK);
-  WANT(named(), 1 << 1 | 1 << 2);
-  replies(1, 3, 2);
-  WANT(lr_server_farewell(&server, 1), LR_E_PARKS);
-  WANT(lr_server_farewell(&server, 2), LR_OK);
-  make_reply(2, 2);
-  put_octets(&wanted, goodbye, sizeof goodbye);
-  CHECK(is_due(2));
-  WANT(answer(one, 1), LR_OK);
-  WANT(named(), 1 << 1);
-  WANT(lr_server_farewell(&server, 1), LR_OK);
-  WANT(lr_server_is_closed(&server, 1), 1);
-  make_reply(1, 1);
-  put_octets(&wanted, goodbye, sizeof goodbye);
-  CHECK(is_due(1));
 }
 
 /* ---- what is due ---- */
@@ -769,7 +734,6 @@ int main(void) {
   parked_wait_for_what_waits();
   places_are_limited();
   parked_outlive();
-  goodbye_comes_after_replies();
   due_is_limited();
   families_lead_many_keys();
   offers_change_while_requests_are_parked();

@@ -21,7 +21,7 @@ import time
 import unittest
 
 from scripts.library import VERSION, serves
-from tests import base, cases, giop, rows
+from tests import base, cases, cdr, giop, rows
 from tests import engine as model
 from tests import engine_model
 from tests.cdr import Octets
@@ -753,7 +753,7 @@ class Engines(Case):
         self.assertEqual((asked.connection, asked.key, asked.operation, asked.arguments), (1, b"c", "add", (7,)))
         self.assertEqual((asked.request_id, asked.version, asked.wish, asked.is_raw), (5, 2, lr.Wish.FULL, False))
         self.assertEqual(asked.ft, lr.FtRequest(b"me", 3, 99))
-        self.assertEqual(asked.body.unpack("l"), (7,))
+        self.assertEqual(asked.body, lr.Body(lr.pack("l", 7), BIG, len(octets) - 4))
         self.assertEqual(engine.output(1), b"")
         engine.answer(7)
         reply = self.reply(engine)
@@ -767,7 +767,29 @@ class Engines(Case):
         engine.feed(1, asked_for(5, "add", lr.pack("l", -7, order=LITTLE), order=LITTLE), LONG_AGO)
         self.assertEqual(engine.asked().arguments, (-7,))
         self.assertEqual(engine.asked().body.unpack("l"), (-7,))
+        self.assertEqual((engine.asked().body.octets, engine.asked().body.order), (b"\xf9\xff\xff\xff", LITTLE))
         self.assertIsNone(engine.asked().ft)
+
+    def test_arguments_at_any_place(self):
+        """In 1.0 and 1.1 a body stands right behind the header, and what follows the arguments is not looked at."""
+        catalogue = counting()
+        catalogue.add_operation(b"c", "both", Signature("sq", ""))
+        engine, places = self.engine(catalogue), set()
+        for version, length, order in itertools.product((0, 1, 2), range(9), (BIG, LITTLE)):
+            with self.subTest(version=version, length=length, order=order):
+                head = giop.request(1, b"c", b"both", minor=version, principal=bytes(length),
+                                    order=cdr.LITTLE if order == LITTLE else cdr.BIG)
+                at = len(head) if version < 2 else -(-len(head) // 8) * 8
+                body = lr.pack("sq", "alice", -9, order=order, at=at) + b"more"
+                octets = bytearray(head + bytes(at - len(head)) + body)
+                octets[8:12] = (len(octets) - 12).to_bytes(4, "little" if order == LITTLE else "big")
+                engine.feed(1, octets, LONG_AGO)
+                asked = engine.asked()
+                engine.answer()
+                self.reply(engine)
+                self.assertEqual((asked.arguments, asked.body), (("alice", -9), lr.Body(body, order, at)))
+                places.add(at % 8)
+        self.assertEqual(places, set(range(8)))
 
     def test_while_a_request_waits(self):
         engine = self.engine()
@@ -897,14 +919,164 @@ class Engines(Case):
 
     def test_farewell(self):
         engine = self.engine()
-        engine.farewell(1)
+        self.assertEqual(engine.farewell(1), 0)
         self.assertEqual(self.reply(engine).type, lr.MessageType.CLOSE_CONNECTION)
         self.assertTrue(engine.is_closed(1))
-        engine.farewell(1)
+        self.assertEqual(engine.farewell(1), 0)
         self.assertEqual(engine.output(1), b"")
         octets = asked_for(1, "get")
         self.assertEqual(engine.feed(1, octets, LONG_AGO), len(octets))
         self.assertIsNone(engine.asked())
+
+    def test_why(self):
+        """A connection says why it ended, until it is lost."""
+        engine, fragment = self.engine(), lr.write_request(1, "c", "get")
+        self.fails(Error.CONNECTION, engine.why, 2)
+        ends = {
+            b"nonsense, and so on": lr.Why.FAULT_MAGIC,
+            b"GIOP\1\7" + bytes(6): lr.Why.FAULT_VERSION,
+            b"GIOP\1\2\0\x63" + bytes(4): lr.Why.FAULT_TYPE,
+            b"GIOP\1\2\0\0" + bytes(4): lr.Why.FAULT_BODY,
+            fragment[:6] + b"\0\7" + fragment[8:]: lr.Why.FAULT_STRAY_FRAGMENT,
+            lr.write_reply(1): lr.Why.DIRECTION,
+            lr.write_close(): lr.Why.GOODBYE,
+            lr.write_error(): lr.Why.ERROR,
+        }
+        for number, (octets, why) in enumerate(ends.items(), 2):
+            with self.subTest(why):
+                engine.connect(number)
+                self.assertIs(engine.why(number), lr.Why.OPEN)
+                engine.feed(number, octets, LONG_AGO)
+                self.assertEqual((engine.why(number), engine.is_closed(number)), (why, True))
+                engine.lost(number)
+                self.fails(Error.CONNECTION, engine.why, number)
+        for number, leave in enumerate((engine.give_up, engine.goodbye), 50):
+            engine.connect(number)
+            engine.feed(number, fragment, LONG_AGO)
+            self.assertIs(engine.why(number), lr.Why.OPEN)
+            leave()
+            self.assertIn(engine.why(number), (lr.Why.GIVEN_UP, lr.Why.FAREWELL))
+        engine.farewell(1)
+        self.assertIs(engine.why(1), lr.Why.FAREWELL)
+
+    def stored(self, engine, outcome, wanted):
+        """An outcome that is stored is the wanted reply of another server, and what a repeat gets there."""
+        other = self.engine()
+        octets = asked_for(1, "add", lr.pack("l", 7), retention=1)
+        other.feed(1, octets, LONG_AGO)
+        other.answer_stored(outcome)
+        for _ in range(2):
+            reply = self.reply(other)
+            self.assertEqual((reply.status, reply.order, reply.body.octets), (outcome.status, BIG, outcome.body))
+            self.assertEqual(reply.body.unpack(wanted[0]), wanted[1:])
+            other.feed(1, octets, LONG_AGO)
+        self.assertEqual(engine.output(1), b"")
+
+    def test_outcomes_are_stored(self):
+        """What is stored is answered by another server; here nothing is, and what is none is not stored."""
+        for is_parked in (False, True):
+            engine = self.engine()
+            self.fails(Error.IDLE, engine.stored, 5)
+            self.fails(Error.IDLE, engine.can_answer, 5)
+            engine.feed(1, asked_for(1, "add", lr.pack("l", 7)), LONG_AGO)
+            ticket = engine.park() if is_parked else None
+            self.stored(engine, engine.stored(5, ticket=ticket), ("q", 5))
+            self.stored(engine, engine.stored_user(OVERFLOW, ticket=ticket), ("s", OVERFLOW))
+            system = engine.stored_system("TIMEOUT", 3, lr.Completed.MAYBE)
+            self.stored(engine, system, ("sLL", "IDL:omg.org/CORBA/TIMEOUT:1.0", 3, 2))
+            for results, can in (((5,), True), ((), False), ((5, 5), False), ((1 << 63,), False), (("a",), False)):
+                self.assertEqual(engine.can_answer(*results, ticket=ticket), can)
+            for wrong, error in (((1 << 63,), ValueError), (("a",), TypeError)):
+                with self.assertRaises(error):
+                    engine.stored(*wrong, ticket=ticket)
+            self.fails(Error.OUTCOME, engine.stored_user, "IDL:Other:1.0", ticket=ticket)
+            with self.assertRaises(KeyError):
+                engine.stored_system("NONE")
+            with self.assertRaises(ValueError):
+                engine.stored_system("TIMEOUT", 0, 3)
+            self.fails(Error.TICKET, engine.stored, 5, ticket=99)
+            self.fails(Error.TICKET, engine.can_answer, 5, ticket=99)
+            self.fails(Error.RANGE, engine.answer_stored, lr.Outcome(4, BIG, b""), ticket=ticket)
+            engine.answer_stored(lr.Outcome(0, LITTLE, lr.pack("q", 6, order=LITTLE)), ticket=ticket)
+            self.assertEqual(self.reply(engine).body.unpack("q"), (6,))
+
+    def test_raw_outcomes_are_stored(self):
+        """Those of a raw operation are stored by who performs it."""
+        catalogue = lr.Catalogue()
+        catalogue.add_raw_object(b"c")
+        engine = self.engine(catalogue)
+        engine.feed(1, asked_for(1, "op", b"\1"), LONG_AGO)
+        self.fails(Error.OUTCOME, engine.stored)
+        engine.answer_stored(lr.Outcome(lr.ReplyStatus.NO_EXCEPTION, LITTLE, b"\2"))
+        reply = self.reply(engine)
+        self.assertEqual((reply.order, reply.body.octets), (LITTLE, b"\2"))
+
+    def test_contexts_of_replies(self):
+        """They are those that were said last, of one answer, whichever it is; a repeat gets none."""
+        contexts, octets = [(7, b"seven"), (7, b""), (0xffffffff, bytes(300))], asked_for(1, "get", retention=1)
+        answers = [
+            lambda engine, ticket: engine.answer(5, ticket=ticket),
+            lambda engine, ticket: engine.raise_system("UNKNOWN", ticket=ticket),
+            lambda engine, ticket: engine.answer_raw(bytes(8), ticket=ticket),
+            lambda engine, ticket: engine.answer_stored(engine.stored(5, ticket=ticket), ticket=ticket),
+        ]
+        for answer, is_parked in itertools.product(answers, (False, True)):
+            engine = self.engine()
+            self.fails(Error.IDLE, engine.reply_contexts, contexts)
+            engine.feed(1, octets, LONG_AGO)
+            ticket = engine.park() if is_parked else None
+            engine.reply_contexts([(1, b"")], ticket=ticket)
+            engine.reply_contexts(contexts, ticket=ticket)
+            self.fails(Error.TICKET, engine.reply_contexts, contexts, ticket=99)
+            for wrong, error in (([(1 << 32, b"")], ValueError), ([(1, "a")], TypeError), ([1], TypeError)):
+                with self.assertRaises(error):
+                    engine.reply_contexts(wrong, ticket=ticket)
+            answer(engine, ticket)
+            self.assertEqual(self.reply(engine).contexts, contexts)
+            engine.feed(1, octets, LONG_AGO)
+            self.assertEqual(self.reply(engine).contexts, [])
+
+    def test_contexts_of_replies_go(self):
+        """They are taken back by none, and given to nobody who is refused."""
+        engine = self.engine()
+        for number, wanted in ((1, []), (2, [(7, b"seven")])):
+            engine.feed(1, asked_for(number, "get"), LONG_AGO)
+            engine.reply_contexts([(7, b"seven")])
+            if number == 1:
+                engine.reply_contexts([])
+            engine.answer(5)
+            self.assertEqual(self.reply(engine).contexts, wanted)
+        engine.feed(1, asked_for(3, "get"), LONG_AGO)
+        first = engine.park()
+        engine.reply_contexts([(7, b"seven")], ticket=first)
+        engine.feed(1, asked_for(4, "get"), LONG_AGO)
+        engine.answer(5)
+        engine.answer(6, ticket=first)
+        replies = {message.request_id: message.contexts for message in lr.messages(engine.output(1))}
+        self.assertEqual(replies[4], [])
+        engine.feed(1, asked_for(5, "get"), LONG_AGO)
+        engine.reply_contexts([(7, b"seven")])
+        engine.refuse()
+        self.assertEqual(self.reply(engine).contexts, [])
+
+    def test_contexts_of_replies_in_each_version(self):
+        """In 1.0 and 1.1 they are left out where the body would not stand behind them at a place divisible by 8."""
+        for version, length in itertools.product((0, 1, 2), range(9)):
+            engine, contexts = self.engine(), [(7, bytes(length))]
+            engine.feed(1, lr.write_request(1, "c", "get", version=version), LONG_AGO)
+            engine.reply_contexts(contexts)
+            engine.answer(5)
+            reply = self.reply(engine)
+            with self.subTest(version=version, length=length):
+                self.assertEqual((reply.version, reply.body.unpack("q")), (version, (5,)))
+                # (the header, a count, an id, the data with its length, the request id and the status)
+                stands = (12 + 4 + 4 + 4 + -(-length // 4) * 4 + 8) % 8 == 0
+                self.assertEqual(reply.contexts, contexts if version == 2 or stands else [])
+        engine = self.engine()
+        engine.feed(1, asked_for(1, "get"), LONG_AGO)
+        engine.reply_contexts([(7, bytes(1048577))])
+        engine.answer(5)
+        self.assertEqual(self.reply(engine).contexts, [])
 
     def test_the_end_of_a_stream(self):
         engine = self.engine()
@@ -991,12 +1163,14 @@ class Engines(Case):
         self.fails(Error.TICKET, engine.answer, 7, ticket=first)
         self.fails(Error.TICKET, engine.raise_system, "UNKNOWN", ticket=first)
         self.fails(Error.TICKET, engine.wanted, first)
-        self.fails(Error.PARKS, engine.farewell, 1)
-        self.assertFalse(engine.is_closed(1))
+        self.assertEqual((engine.farewell(1), engine.farewell(1)), (1, 1))
+        self.assertEqual((engine.is_closed(1), engine.why(1), engine.output(1)), (False, lr.Why.OPEN, b""))
+        octets = asked_for(7, "get")
+        self.assertEqual(engine.feed(1, octets, LONG_AGO), len(octets))
+        self.assertIsNone(engine.asked())
         self.fails(Error.OUTCOME, engine.raise_user, OVERFLOW, ticket=second)
         engine.refuse("TIMEOUT", 3, ticket=second)
         self.assertEqual([engine.next_due(), engine.next_due()], [1, None])
-        engine.farewell(1)
         reply, close = lr.messages(engine.output(1))
         self.assertEqual(reply.body.unpack("sLL"), ("IDL:omg.org/CORBA/TIMEOUT:1.0", 3, 1))
         self.assertIs(close.type, lr.MessageType.CLOSE_CONNECTION)
@@ -1088,7 +1262,7 @@ class Player:
             if not -1 << 63 <= total < 1 << 63:
                 self.engine.raise_user(OVERFLOW)
                 return True
-            self.total, order = total, self.dice.choice([BIG, LITTLE])
+            self.total, order = total, BIG  # (as the other server writes it)
             self.engine.answer_octets(lr.pack("q", total, order=order), order)
             return True
         _, name, minor = self.manner.split(" ")
@@ -1965,6 +2139,32 @@ class Waits(Case):
                     await server.listen()
         self.run_async(main())
 
+    def test_close_waits_without_a_limit(self):
+        """What is under way is waited for, though its client is gone."""
+        async def main():
+            performed = []
+
+            async def function(number):
+                await asyncio.sleep(0.2)
+                performed.append(number)
+
+            server, client = await self.pair({"op": ("l", "", function)})
+            async with client:
+                _, writer = await asyncio.open_connection(client.host, client.port)
+                writer.write(lr.write_request(1, "k", "op", lr.pack("l", 8)))
+                while not server.stats()["parked_now"]:
+                    await asyncio.sleep(0.01)
+                writer.transport.abort()
+                await server.close(timeout=None)
+                self.assertEqual(performed, [8])
+        self.run_async(main())
+
+    def test_members_of_an_exception_are_values(self):
+        """One text is not taken for the letters of it."""
+        for values in "bob", b"bob":
+            with self.assertRaises(TypeError):
+                lr.UserException("IDL:X:1.0", values)
+
     def test_close_cuts_off(self):
         """What does not end in time is cancelled: it is answered as it says itself, or as what has perhaps acted."""
         async def main():
@@ -2035,6 +2235,51 @@ class Waits(Case):
             self.assertEqual(last.contexts, ())
             self.assertEqual((last.peer, last.request_id, last.wish, last.connection), (own, 77, lr.Wish.EMPTY, 2))
         self.run_async(main())
+
+    def test_contexts_of_replies(self):
+        """Each servant says its own, plain or async, beside others; those of a request that is refused go."""
+        async def main():
+            kept = []
+
+            def plain(number):
+                lr.current().reply_contexts([(1, b"before")])
+                lr.current().reply_contexts([(number, b"plain")])
+                if number == 2:
+                    raise lr.SystemException("NO_PERMISSION")
+                if number == 3:
+                    raise lr.Refuse()
+                return number
+
+            async def slow(number):
+                lr.current().reply_contexts([(number, b"slow")])
+                kept.append(lr.current())
+                await asyncio.sleep(0.02 * (10 - number))
+                if number == 5:
+                    with self.assertRaises(TypeError):
+                        lr.current().reply_contexts([(1, "a")])
+                    lr.current().reply_contexts([])
+                if number == 6:
+                    raise ValueError
+                return number
+
+            server, client = await self.pair({"plain": ("l", "l", plain), "slow": ("l", "l", slow)})
+            async with server, client:
+                reader, writer = await asyncio.open_connection(client.host, client.port)
+                for number in range(8):
+                    operation = "slow" if number > 3 else "plain"
+                    writer.write(lr.write_request(number, "k", operation, lr.pack("l", number)))
+                while len(kept) < 4 or server.stats()["parked_now"]:
+                    await asyncio.sleep(0.01)
+                writer.write_eof()
+                found = {one.request_id: [data for _, data in one.contexts] for one in lr.messages(await reader.read())}
+                writer.close()
+                plainly, slowly = [b"plain"], [b"slow"]
+                self.assertEqual(found, {0: plainly, 1: plainly, 2: plainly, 3: [], 4: slowly, 5: [], 6: [], 7: slowly})
+                for one in kept:
+                    self.fails(Error.TICKET, one.reply_contexts, [(1, b"")])
+                self.assertEqual(server._works._contexts, {})
+        with self.assertLogs("lemonrudder"):
+            self.run_async(main())
 
     def test_objects_that_come_and_go(self):
         async def main():
@@ -2279,17 +2524,17 @@ class Bounds(Case):
                                              capacity=1)
             ft = lr.write_ft("A", 1, 5)
             cases = {
-                "nonsense, and so on": "its stream has ended",
-                lr.write_reply(1): "its stream has ended",
-                lr.write_close(): "its stream has ended",
-                lr.write_error(): "its stream has ended",
+                "nonsense, and so on": "ended: its stream has a fault (FAULT_MAGIC)",
+                lr.write_reply(1): "ended: a message came that only a server sends",
+                lr.write_close(): "DEBUG:lemonrudder:connection 3",
+                lr.write_error(): "ended: its peer sent MessageError",
                 lr.write_request(1, "k", "op", context=(lr.FT_REQUEST, ft)): "refused on connection 5 (127.0.0.1:",
                 lr.write_request(1, "k", "none"): "there is no such object or operation",
                 lr.write_request(1, "k", "not_now"): "'not_now' is refused on connection 7",
             }
             async with server, client:
                 for octets, text in cases.items():
-                    with self.subTest(text), self.assertLogs("lemonrudder", "INFO") as logged:
+                    with self.subTest(text), self.assertLogs("lemonrudder", "DEBUG") as logged:
                         reader, writer = await asyncio.open_connection(client.host, client.port)
                         writer.write(octets if isinstance(octets, bytes) else octets.encode())
                         writer.write_eof()

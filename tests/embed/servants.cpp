@@ -34,6 +34,25 @@ int main(int count, char** words) {
   const auto withdraw = [](lr::Asked& asked) -> lr::Done {
     return asked.later().transform([](lr::Later later) { later.refuse(lr::SystemException::no_permission, 7); });
   };
+  // Stores its outcome before it answers by it, later or at once, in a reply with a context.
+  const auto keep = [](bool is_later) {
+    return [is_later](lr::Asked& asked) -> lr::Done {
+      lr::GrowingWriter contexts, result;
+      if (!contexts.put_count(1).put_ulong(7).put_octets("seven").done() || !result.put_long(6).done()) return {};
+      if (asked.stored_exception("IDL:None:1.0", lr::Order::big, {}) || asked.stored(lr::Order::big, {})) return {};
+      const auto outcome = asked.stored(result.order(), result.octets());
+      const auto can = asked.can_answer(result.order(), result.octets());
+      if (!outcome || !can.ok() || !*can) return {};
+      if (is_later)
+        return asked.later().transform([&](lr::Later later) {
+          later.reply_contexts(contexts.order(), contexts.octets());
+          later.answer_stored(*outcome);
+        });
+      return asked.reply_contexts(contexts.order(), contexts.octets()).and_then([&] {
+        return asked.answer_stored(*outcome);
+      });
+    };
+  };
   const auto name = [](lr::Asked& asked) {
     return asked.answer_raw(lr::ReplyStatus::no_exception, lr::Order::big, lr::Octets(asked.operation()));
   };
@@ -48,6 +67,8 @@ int main(int count, char** words) {
         loop.operation("desk", "forget", {}, {LR_TYPE_LONG}, forget),
         loop.operation("desk", "misfit", {}, {LR_TYPE_LONG}, misfit),
         loop.operation("desk", "overflow", {}, {LR_TYPE_STRING}, overflow),
+        loop.operation("desk", "keep", {}, {LR_TYPE_LONG}, keep(false)),
+        loop.operation("desk", "keep_later", {}, {LR_TYPE_LONG}, keep(true)),
         loop.operation("desk", "withdraw", {}, {}, withdraw), loop.operation("desk", "nothing", {}, {}, nothing),
         loop.operation("desk", "stop", {}, {}, stop), loop.catalogue().raw_object("any"), loop.open()})
     if (!done) return 1;

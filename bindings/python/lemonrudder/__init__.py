@@ -53,19 +53,21 @@ from ._library import LIMIT, PARTIALS, LemonrudderError, moment_of, now
 from ._messages import (FT_REQUEST, Assembler, Body, FtRequest, Message, StreamError, messages, write_cancel,
                         write_close, write_error, write_ft, write_locate_reply, write_locate_request, write_reply,
                         write_request)
-from ._outcomes import (Expired, ForwardRequest, GiveUp, NeedsAddressing, Refuse, SystemException, UserException)
+from ._outcomes import (Expired, ForwardRequest, GiveUp, NeedsAddressing, Outcome, Refuse, SystemException,
+                        UserException)
 from ._references import REFERENCE, Address, Ior, Profile
 from ._servants import Operation, RawReply
 from ._server import Server
 from ._table import (VERSION, Completed, ContextId, Counted, Error, Fault, LocateStatus, MessageType, Order,
-                     ReplyStatus, SystemName, Wish)
+                     ReplyStatus, SystemName, Why, Wish)
 
 __all__ = [
     "BIG", "FT_REQUEST", "LIMIT", "LITTLE", "PARTIALS", "REFERENCE", "VERSION", "Address", "Asked", "Assembler", "Body",
     "Catalogue", "Client", "Completed", "ContextId", "Counted", "Current", "Engine", "Error", "Expired", "Fault",
     "FormatError", "ForwardRequest", "FtRequest", "GiveUp", "Ior", "LemonrudderError", "LocateStatus", "Message",
-    "MessageType", "NeedsAddressing", "Operation", "Order", "Profile", "RawReply", "Reader", "Refuse", "ReplyStatus",
-    "Server", "Signature", "StreamError", "SystemException", "SystemName", "UserException", "Wish", "Writer",
-    "current", "messages", "moment_of", "now", "pack", "type_codes", "unpack", "write_cancel", "write_close",
-    "write_error", "write_ft", "write_locate_reply", "write_locate_request", "write_reply", "write_request",
+    "MessageType", "NeedsAddressing", "Operation", "Order", "Outcome", "Profile", "RawReply", "Reader", "Refuse",
+    "ReplyStatus", "Server", "Signature", "StreamError", "SystemException", "SystemName", "UserException", "Why",
+    "Wish", "Writer", "current", "messages", "moment_of", "now", "pack", "type_codes", "unpack", "write_cancel",
+    "write_close", "write_error", "write_ft", "write_locate_reply", "write_locate_request", "write_reply",
+    "write_request",
 ]

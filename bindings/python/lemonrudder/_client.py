@@ -9,7 +9,7 @@ from typing import Any, Dict, List, Mapping, Optional, Sequence, Tuple, Union
 
 from ._cdr import BIG, pack, parsed, result_of, type_codes
 from ._library import LIMIT, PARTIALS, LemonrudderError, Octets, Text, lent, now, octets_of
-from ._messages import Body
+from ._messages import Body, listed
 from ._outcomes import Expired, ForwardRequest, NeedsAddressing, SystemException, UserException
 from ._references import Ior
 from ._road import Call, Place, Road
@@ -141,8 +141,7 @@ class Client:
         Raises what call does, and LemonrudderError (PLACE: in 1.0 and 1.1 the body would stand at another place;
         VALUE: FT_REQUEST is among the contexts).
         """
-        listed = pack("[(Lo)]", list(contexts), order=order) if contexts else b""
-        parts = (order, *lent(listed), *lent(body))
+        parts = (order, *lent(listed(contexts, order)), *lent(body))
         made = Call(octets_of(operation), _expiration(timeout, expiration), wish, parts)
         how, answer = await self._made(number, octets_of(key), made)
         if how in (Ended.RETURNED, Ended.SENT):

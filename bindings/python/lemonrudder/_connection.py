@@ -7,7 +7,6 @@ import time
 from typing import TYPE_CHECKING, Any, Optional
 
 from ._library import LemonrudderError, address_of, now
-from ._table import Error
 
 if TYPE_CHECKING:
     from ._server import Server
@@ -21,6 +20,7 @@ except ImportError:  # (Windows has neither)
 # how many octets are read at a time, and written
 _PIECE = 65536
 _NOTHING = memoryview(b"")
+PEER_ENDED = "its peer ended it"
 
 
 class Connection(asyncio.BufferedProtocol):
@@ -44,9 +44,9 @@ class Connection(asyncio.BufferedProtocol):
         self._room = _NOTHING
         # what came, when, where it lies, and the index of what was not taken yet
         self._came, self._moment, self._address, self._at = b"", 0, 0, 0
-        # whether a turn is to come; what was written is not taken; a place for a request is waited for; all that comes
-        # means nothing, and goodbye was said
-        self._has_turn = self._is_full = self._waits = self._is_over = self._is_said = False
+        # whether a turn is to come; what was written is not taken; a place for a request is waited for; goodbye was
+        # said, so that all that comes means nothing
+        self._has_turn = self._is_full = self._waits = self._is_over = False
         self._watch: Optional[asyncio.TimerHandle] = None
 
     def __str__(self) -> str:
@@ -80,7 +80,7 @@ class Connection(asyncio.BufferedProtocol):
 
     def eof_received(self) -> bool:
         """The peer has ended its stream, and with it the connection: what is parked is answered for its repeats."""
-        self.reason = self.reason or "its peer ended it"
+        self.reason = self.reason or PEER_ENDED
         return False
 
     def pause_writing(self) -> None:
@@ -114,34 +114,21 @@ class Connection(asyncio.BufferedProtocol):
 
     def farewell(self, reason: str = "") -> None:
         """Says goodbye, behind what is parked, and closes the connection then."""
+        engine = self.server._engine
         self._drop()
         self.reason = self.reason or reason
         self._is_over = True
-        self.end()
-
-    def go_away(self) -> None:
-        """Ends where goodbye waits for who waits here."""
-        if self._is_over and not self._is_said:
-            self.end()
-
-    def _say_goodbye(self) -> None:
-        """Says goodbye, or does so later where somebody waits here for an outcome."""
-        engine = self.server._engine
         try:
             if not engine.is_closed(self.number):
                 engine.farewell(self.number)
         except LemonrudderError as error:
-            if error.number == Error.PARKS:
-                return
             self.reason = str(error)
-        self._is_said = True
+        self.end()
 
     def end(self) -> None:
         """Sends what is due, and closes the connection where it has ended."""
         if self.server.is_closed or self.transport.is_closing():
             return
-        if self._is_over and not self._is_said:
-            self._say_goodbye()
         engine = self.server._engine
         while not self._is_full:
             octets = engine.output(self.number, _PIECE)

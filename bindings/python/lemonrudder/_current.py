@@ -3,7 +3,9 @@ from __future__ import annotations
 
 from contextvars import ContextVar
 from dataclasses import dataclass, field
-from typing import Any, Callable, Mapping, Optional, Tuple
+from typing import Any, Callable, Mapping, Optional, Sequence, Tuple
+
+from ._library import Octets
 
 
 @dataclass(frozen=True)
@@ -30,6 +32,7 @@ class Current:
     version: int
     wish: int
     _wanted: Callable[[], int] = field(repr=False, compare=False)
+    _say: Callable[[Sequence[Tuple[int, Octets]]], None] = field(repr=False, compare=False)
 
     @property
     def wanted(self) -> int:
@@ -39,6 +42,12 @@ class Current:
     def context(self, id: int) -> Optional[bytes]:
         """The data of the first service context of an id, or None."""
         return next((data for number, data in self.contexts if number == id), None)
+
+    def reply_contexts(self, contexts: Sequence[Tuple[int, Octets]]) -> None:
+        """Ids and data of service contexts for the replies to this request, as of Engine.reply_contexts: those that
+        were said for it last. Raises ValueError or TypeError: they are none; LemonrudderError (TICKET: it is
+        answered)."""
+        self._say(contexts)
 
 
 CURRENT: ContextVar[Current] = ContextVar("lemonrudder.current")

@@ -4,15 +4,15 @@ from __future__ import annotations
 import ctypes
 import secrets
 from dataclasses import dataclass
-from typing import Any, Dict, Optional, Tuple, Union
+from typing import Any, Dict, Optional, Sequence, Tuple, Union
 
 from ._catalogue import Catalogue, Signature, Types
 from ._cdr import BIG, pack
 from ._library import (LIMIT, PARTIALS, Held, LemonrudderError, Octets, Text, address_of, call, checked, copied, lent,
                        library, named, now, octets_of, structs)
-from ._messages import Body, FtRequest
-from ._outcomes import system_number
-from ._table import Completed, Counted, Error, Order, Part, ReplyStatus, ServerSetting, Wish
+from ._messages import Body, FtRequest, listed
+from ._outcomes import Outcome, system_number
+from ._table import Completed, Counted, Error, Order, Part, ReplyStatus, ServerSetting, SystemName, Why, Wish
 
 CONTEXTS = 64
 """How many service contexts of a request are read where nothing else is said."""
@@ -22,8 +22,8 @@ CONTEXTS = 64
 class Asked:
     """A request that waits for its outcome.
 
-    ticket: a number of this request alone. arguments: the values of its arguments; None of a raw operation. body: the
-    same as octets; of a raw operation as they came. ft: what its FT_REQUEST says, if it carries one. contexts: how many
+    ticket: a number of this request alone. arguments: the values of its arguments; None of a raw operation. body: its
+    octets as they came, which begin with these. ft: what its FT_REQUEST says, if it carries one. contexts: how many
     service contexts it has.
     """
 
@@ -106,19 +106,23 @@ class Engine(Held):
         """
         call(library.lr_server_lost, self._slot, connection)
 
-    def farewell(self, connection: int) -> None:
-        """Says goodbye: CloseConnection is due, unless the connection's stream has ended. What comes on it afterwards
-        has no meaning.
+    def farewell(self, connection: int) -> int:
+        """Says goodbye: CloseConnection is due, unless the connection's stream has ended. Returns how many wait there
+        for the outcome of a parked request: it is due behind the last of their replies, and now where none does. What
+        comes on the connection from now on has no meaning.
 
-        Raises LemonrudderError (ASKING; PARKS: somebody waits there for the outcome of a parked request: feed it no
-        more, and say goodbye when that is answered; CONNECTION, LOST).
+        Raises LemonrudderError (ASKING, CONNECTION, LOST).
         """
-        call(library.lr_server_farewell, self._slot, connection)
+        return call(library.lr_server_farewell, self._slot, connection)
 
     def is_closed(self, connection: int) -> bool:
-        """Whether a connection was never opened, is gone, has ended or was said goodbye to, so that its socket is to be
-        closed once what is due is sent."""
+        """Whether a connection was never opened, is gone, has ended or CloseConnection was said, so that its socket is
+        to be closed once what is due is sent."""
         return call(library.lr_server_is_closed, self._slot, connection) == 1
+
+    def why(self, connection: int) -> Why:
+        """Why a connection has ended, until it is lost; OPEN where it goes on. Raises LemonrudderError (CONNECTION)."""
+        return Why(call(library.lr_server_why, self._slot, connection))
 
     def feed(self, connection: int, octets: Octets, moment: Optional[int] = None, start: int = 0) -> int:
         """Takes octets of a connection from an index on, which came at a moment, now if none is given. Returns the
@@ -220,10 +224,7 @@ class Engine(Held):
 
         Errors as of answer.
         """
-        number, signature = self._typed(ticket)
-        if id not in signature.raises:
-            raise LemonrudderError(Error.OUTCOME, f"the operation does not raise {id}")
-        octets = pack(signature.raises[id], *members)
+        number, octets = self._user(id, members, ticket)
         self._answered(number, library.lr_server_raise, *lent(id), BIG, *lent(octets))
 
     def raise_system(self, name: Union[str, int], minor: int = 0, completed: int = Completed.NO, *,
@@ -241,6 +242,52 @@ class Engine(Held):
         place divisible by 8, and its status, NO_EXCEPTION to LOCATION_FORWARD. The types of the operation are not
         looked at. Errors as of answer."""
         self._answered(self._ticket(ticket), library.lr_server_answer_raw, status, order, *lent(octets))
+
+    def can_answer(self, *results: Any, ticket: Optional[int] = None) -> bool:
+        """Whether answer would take these results, before what they say is done. Raises LemonrudderError (IDLE,
+        TICKET)."""
+        try:
+            self.stored(*results, ticket=ticket)
+        except (TypeError, ValueError):
+            return False
+        except LemonrudderError as error:
+            if error.number != Error.OUTCOME:
+                raise
+            return False
+        return True
+
+    def stored(self, *results: Any, ticket: Optional[int] = None) -> Outcome:
+        """Results of a request as an outcome to store: nothing is answered. Errors as of answer, but ASKING, MEMORY and
+        LOST."""
+        number, signature = self._typed(ticket)
+        octets = pack(signature.results, *results)
+        call(library.lr_server_can_answer, self._slot, number, BIG, *lent(octets))
+        return Outcome(ReplyStatus.NO_EXCEPTION, BIG, octets)
+
+    def stored_user(self, id: str, *members: Any, ticket: Optional[int] = None) -> Outcome:
+        """.. an exception that its operation declares. Errors as of raise_user, but ASKING and LOST."""
+        number, octets = self._user(id, members, ticket)
+        body = copied(self._room, library.lr_server_exception, self._slot, number, *lent(id), BIG, *lent(octets))
+        return Outcome(ReplyStatus.USER_EXCEPTION, BIG, body)
+
+    def stored_system(self, name: Union[str, int], minor: int = 0, completed: int = Completed.NO) -> Outcome:
+        """.. a system exception. Raises KeyError: there is no such name; ValueError."""
+        id = f"IDL:omg.org/CORBA/{SystemName(system_number(name)).name}:1.0"
+        return Outcome(ReplyStatus.SYSTEM_EXCEPTION, BIG, pack("sLe3", id, minor, completed))
+
+    def answer_stored(self, outcome: Outcome, *, ticket: Optional[int] = None) -> None:
+        """Answers by a stored outcome of the request, in another process too. Errors as of answer_raw."""
+        self.answer_raw(outcome.body, outcome.order, outcome.status, ticket=ticket)
+
+    def reply_contexts(self, contexts: Sequence[Tuple[int, Octets]], *, ticket: Optional[int] = None) -> None:
+        """Ids and data of service contexts for the replies that the next answer of a request makes due, unless it is
+        refused: none, or at most 1048576 octets of them. They take the place of those that were said before, of any
+        request, and are not kept: a repeat that comes later gets none. In 1.0 and 1.1 they are left out where the body
+        would not stand behind them at a place divisible by 8.
+
+        Raises LemonrudderError (IDLE, TICKET, MEMORY); ValueError or TypeError: they are none.
+        """
+        call(library.lr_server_reply_contexts, self._slot, self._ticket(ticket), BIG, *lent(listed(contexts)))
 
     def identify(self, ticket: Optional[int] = None) -> bool:
         """Answers _is_a and _non_existent of an object that names its repository ids. Returns whether it is one of
@@ -324,7 +371,7 @@ class Engine(Held):
         self._offer, catalogue._offer = catalogue._offer, self._offer
 
     def _part(self, ticket: int, part: int, size: int = 0) -> bytes:
-        """A part, which has about so many octets. (A body is made of its values each time that it is asked for.)"""
+        """A part, which has about so many octets."""
         room = self._room if size <= len(self._room) else ctypes.create_string_buffer(size)
         return copied(room, library.lr_server_part, self._slot, ticket, part)
 
@@ -348,6 +395,13 @@ class Engine(Held):
         if not call(library.lr_server_asked, self._slot, head, ctypes.sizeof(head)):
             raise LemonrudderError(Error.IDLE)
         return int(head.ticket)
+
+    def _user(self, id: str, members: Sequence[Any], ticket: Optional[int]) -> Tuple[int, bytes]:
+        """A ticket as of _ticket, and the members of an exception that the operation declares."""
+        number, signature = self._typed(ticket)
+        if id not in signature.raises:
+            raise LemonrudderError(Error.OUTCOME, f"the operation does not raise {id}")
+        return number, pack(signature.raises[id], *members)
 
     def _typed(self, ticket: Optional[int]) -> Tuple[int, Signature]:
         """A ticket as of _ticket, and the types of the operation that is asked for."""

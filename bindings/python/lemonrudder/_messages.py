@@ -5,7 +5,7 @@ import ctypes
 from dataclasses import dataclass, field
 from typing import Any, Dict, Iterator, List, Optional, Sequence, Tuple, Union
 
-from ._cdr import BIG, Reader, unpack
+from ._cdr import BIG, Reader, pack, unpack
 from ._library import (LIMIT, PARTIALS, Held, LemonrudderError, Octets, Text, address_of, call, checked, copied, lent,
                        library, named, octets_of, structs, written)
 from ._table import ContextId, Error, Fault, LocateStatus, MessageType, Order, Part, ReplyStatus, Wish
@@ -151,6 +151,11 @@ class Assembler(Held):
         if head.has_client:
             said["ft"] = FtRequest(self._part(Part.CLIENT), head.retention_id, head.expiration)
         return Message(kind, head.version, order, **said)
+
+
+def listed(contexts: Sequence[Tuple[int, Octets]], order: int = BIG) -> bytes:
+    """Ids and data of service contexts as an IOP::ServiceContextList; nothing, where there are none."""
+    return pack("[(Lo)]", list(contexts), order=order) if contexts else b""
 
 
 def _message(size: int, function: Any, *arguments: Any) -> bytes:

@@ -1,12 +1,23 @@
 """What operations and calls raise."""
 from __future__ import annotations
 
+from dataclasses import dataclass
 from typing import Optional, Sequence, Union
 
 from ._library import named
 from ._messages import Body
 from ._references import Ior
 from ._table import Completed, SystemName
+
+
+@dataclass(frozen=True)
+class Outcome:
+    """What became of a request, in the form in which it is stored: the status of its Reply, a `ReplyStatus`, and the
+    order and the octets of its body, which are aligned from place 0."""
+
+    status: int
+    order: int
+    body: bytes
 
 
 class UserException(Exception):
@@ -16,6 +27,8 @@ class UserException(Exception):
     """
 
     def __init__(self, id: str, values: Sequence[object] = (), body: Optional[Body] = None) -> None:
+        if isinstance(values, (str, bytes)):
+            raise TypeError(f"values of members, and not one: {values!r}")
         super().__init__(id, tuple(values))
         self.id, self.values, self.body = id, tuple(values), body
 

@@ -6,13 +6,13 @@ import logging
 from functools import partial
 from typing import Any, Callable, Dict, List, Mapping, Optional, Sequence, Tuple, Union
 
-from ._connection import Connection
+from ._connection import PEER_ENDED, Connection
 from ._engine import Catalogue, Engine
 from ._library import LIMIT, PARTIALS, LemonrudderError, Text, octets_of
 from ._messages import Body
 from ._references import Ior
 from ._servants import Offer, Operation, Performer, described
-from ._table import Counted, Error
+from ._table import Counted, Error, Why
 from ._works import GRACE, Works
 
 # how long a turn lasts, in seconds: after that no further message of a connection is taken, nor outcome told. The first
@@ -29,6 +29,18 @@ _REFUSED = {
     Counted.SHARE_FULL: "as many outcomes of its client are kept as may be (share)",
     Counted.DROPPED: "memory is short",
 }
+# why a connection has ended where its stream has no fault
+_ENDED = {
+    Why.OPEN: "it is lost",
+    Why.DIRECTION: "a message came that only a server sends",
+    Why.GOODBYE: "its peer said goodbye",
+    Why.ERROR: "its peer sent MessageError",
+    Why.FAREWELL: "goodbye was said",
+    Why.GIVEN_UP: "a request that came on it was given up",
+    Why.MEMORY: "memory is short",
+}
+# how it ends as it should
+_USUAL = (PEER_ENDED, _ENDED[Why.GOODBYE], _ENDED[Why.FAREWELL], "the server closes")
 
 
 class Server:
@@ -64,7 +76,8 @@ class Server:
     connection that has been silent. write_timeout: the seconds that a peer may take nothing of what is due. None: as
     long as it likes.
 
-    The logger `lemonrudder` has a line for each request that is refused and each connection that ends.
+    The logger `lemonrudder` has a line for each request that is refused and each connection that ends, and why: at
+    DEBUG where its peer or the server ended it.
     """
 
     def __init__(self, limit: int = LIMIT, partials: int = PARTIALS, capacity: int = 65536,
@@ -200,8 +213,9 @@ class Server:
         finally:
             await self.close()
 
-    async def close(self, timeout: float = 10.0) -> None:
-        """Stops listening, says goodbye on each connection, and waits for what is parked, so many seconds at most.
+    async def close(self, timeout: Optional[float] = 10.0) -> None:
+        """Stops listening, says goodbye on each connection, and waits for what is parked, so many seconds at most; None:
+        however long it takes. It is waited for also where its client is gone.
 
         What is under way then is cancelled: a servant that has done nothing may raise Refuse yet; else it is answered
         COMM_FAILURE, COMPLETED_MAYBE, since it has perhaps acted. What was kept for repeats is gone.
@@ -270,9 +284,11 @@ class Server:
         self._waiting.pop(connection, None)
         if self._connections.pop(connection.number, None) is None or self.is_closed:
             return
-        is_ended = self._engine.is_closed(connection.number)
-        text = connection.reason or ("its stream has ended" if is_ended else "it is lost")
-        self.log.info("%s ended: %s", connection, text)
+        why = self._engine.why(connection.number)
+        text = _ENDED.get(why) or f"its stream has a fault ({why.name})"
+        if why in (Why.OPEN, Why.FAREWELL):
+            text = connection.reason or text
+        self.log.log(logging.DEBUG if text in _USUAL else logging.INFO, "%s ended: %s", connection, text)
         self._engine.lost(connection.number)
         if not self._connections and not self._emptied.done():
             self._emptied.set_result(None)
@@ -341,7 +357,7 @@ class Server:
             if connection is not None:
                 connection.end()
 
-    async def _close(self, timeout: float) -> None:
+    async def _close(self, timeout: Optional[float]) -> None:
         """Ends as close says."""
         if self._engine is not None and not self.is_closed:
             for listener in self._listeners:
@@ -356,7 +372,7 @@ class Server:
                 # (replies are on their way)
                 if self._emptied.done():
                     self._emptied = self._loop.create_future()
-                await asyncio.wait([self._emptied], timeout=min(timeout, GRACE))
+                await asyncio.wait([self._emptied], timeout=GRACE if timeout is None else min(timeout, GRACE))
         self._stop()
 
     def _stop(self, error: Optional[Exception] = None) -> None:

@@ -332,6 +332,39 @@ class Fault(enum.IntEnum):
     MEMORY = 13
 
 
+class Why(enum.IntEnum):
+    """Why a connection has ended, until it is lost: LR_WHY_.., or LR_FAULT_.. where its stream has a fault;
+    LR_WHY_OPEN where it goes on. LR_E_EMPTY, LR_E_CONNECTION (it was never opened, or is lost).
+    """
+
+    OPEN = 0
+    FAULT_MAGIC = 1
+    FAULT_VERSION = 2
+    FAULT_FLAGS = 3
+    FAULT_TYPE = 4
+    FAULT_CUT = 5
+    FAULT_TOO_LARGE = 6
+    FAULT_UNALIGNED_FRAGMENT = 7
+    FAULT_STRAY_FRAGMENT = 8
+    FAULT_TWICE_STARTED = 9
+    FAULT_TOO_MANY_PARTIAL = 10
+    FAULT_BODY = 11
+    FAULT_MIXED_ORDER = 12
+    FAULT_MEMORY = 13
+    DIRECTION = 32
+    """a message came that only a server sends"""
+    GOODBYE = 33
+    """the peer sent CloseConnection"""
+    ERROR = 34
+    """the peer sent MessageError"""
+    FAREWELL = 35
+    """CloseConnection was said"""
+    GIVEN_UP = 36
+    """a request that came on it was given up"""
+    MEMORY = 37
+    """memory was short"""
+
+
 class MessageType(enum.IntEnum):
     """The type of a message (CORBA 3.3 Part 2, 9.4.1)."""
 
@@ -521,6 +554,13 @@ CONSTANTS: Dict[str, int] = {
     "LR_FAULT_BODY": 11,
     "LR_FAULT_MIXED_ORDER": 12,
     "LR_FAULT_MEMORY": 13,
+    "LR_WHY_OPEN": 0,
+    "LR_WHY_DIRECTION": 32,
+    "LR_WHY_GOODBYE": 33,
+    "LR_WHY_ERROR": 34,
+    "LR_WHY_FAREWELL": 35,
+    "LR_WHY_GIVEN_UP": 36,
+    "LR_WHY_MEMORY": 37,
     "LR_MSG_REQUEST": 0,
     "LR_MSG_REPLY": 1,
     "LR_MSG_CANCEL_REQUEST": 2,
@@ -590,6 +630,7 @@ FUNCTIONS: Dict[str, Tuple[str, Tuple[str, ...]]] = {
     "lr_server_lost": ("int64_t", ("lr_server *", "uint64_t")),
     "lr_server_farewell": ("int64_t", ("lr_server *", "uint64_t")),
     "lr_server_is_closed": ("int64_t", ("lr_server *", "uint64_t")),
+    "lr_server_why": ("int64_t", ("lr_server *", "uint64_t")),
     "lr_server_feed": ("int64_t", ("lr_server *", "uint64_t", "uint64_t", "const void *", "size_t")),
     "lr_server_asked": ("int64_t", ("lr_server *", "lr_request *", "size_t")),
     "lr_server_part": ("int64_t", ("lr_server *", "uint64_t", "uint32_t", "void *", "size_t")),
@@ -599,6 +640,11 @@ FUNCTIONS: Dict[str, Tuple[str, Tuple[str, ...]]] = {
     "lr_server_parked_of": ("int64_t", ("lr_server *", "uint64_t")),
     "lr_server_wanted": ("int64_t", ("lr_server *", "uint64_t")),
     "lr_server_answer": ("int64_t", ("lr_server *", "uint64_t", "uint32_t", "const void *", "size_t")),
+    "lr_server_can_answer": ("int64_t", ("lr_server *", "uint64_t", "uint32_t", "const void *", "size_t")),
+    "lr_server_exception": ("int64_t", (
+        "lr_server *", "uint64_t", "const void *", "size_t", "uint32_t", "const void *", "size_t", "void *", "size_t",
+    )),
+    "lr_server_reply_contexts": ("int64_t", ("lr_server *", "uint64_t", "uint32_t", "const void *", "size_t")),
     "lr_server_raise": ("int64_t", (
         "lr_server *", "uint64_t", "const void *", "size_t", "uint32_t", "const void *", "size_t",
     )),
@@ -647,6 +693,10 @@ FUNCTIONS: Dict[str, Tuple[str, Tuple[str, ...]]] = {
     "lr_client_redirect": ("int64_t", (
         "lr_client *", "int64_t", "const void *", "size_t", "const void *", "size_t", "const uint8_t *", "size_t",
         "uint32_t", "const void *", "size_t",
+    )),
+    "lr_client_redirect_raw": ("int64_t", (
+        "lr_client *", "int64_t", "uint32_t", "const void *", "size_t", "const void *", "size_t", "uint32_t",
+        "const void *", "size_t", "const void *", "size_t",
     )),
     "lr_client_output": ("int64_t", ("lr_client *", "void *", "size_t")),
     "lr_assembler_open": ("int64_t", ("lr_assembler *", "uint32_t", "uint32_t")),

@@ -3,16 +3,18 @@ from __future__ import annotations
 
 import asyncio
 import inspect
+import math
 import time
 from collections import OrderedDict, deque
 from functools import partial
-from typing import TYPE_CHECKING, Any, Awaitable, Callable, Deque, Dict, Optional
+from typing import TYPE_CHECKING, Any, Awaitable, Callable, Deque, Dict, Optional, Sequence, Tuple
 
 from ._cdr import results_of
 from ._connection import Connection
 from ._current import CURRENT, Current
 from ._engine import Asked
-from ._library import LemonrudderError
+from ._library import LemonrudderError, Octets
+from ._messages import listed
 from ._outcomes import GiveUp, Refuse, SystemException, UserException
 from ._servants import Performer, RawReply
 from ._table import Completed, Error, SystemName
@@ -42,6 +44,8 @@ class Works:
     def __init__(self, server: Server, most: int) -> None:
         self._server, self._most = server, most
         self.works: Dict[int, _Work] = {}
+        # what servants said for the replies to requests that are not answered, by their tickets
+        self._contexts: Dict[int, Sequence[Tuple[int, Octets]]] = {}
         # those whose tasks have ended, of each connection
         self._done_of: OrderedDict[Connection, Deque[_Work]] = OrderedDict()
 
@@ -89,15 +93,28 @@ class Works:
         contexts = self._server._engine.contexts() if asked.contexts else ()
         return Current(asked.key, asked.operation, ft and ft.client, ft and ft.retention_id, ft and ft.expiration,
                        connection.number, connection.peer, connection.certificate, contexts, asked.request_id,
-                       asked.version, asked.wish, lambda: self._wanted(ticket))
+                       asked.version, asked.wish, lambda: self._wanted(ticket), partial(self._say, ticket))
+
+    def _waits(self, ticket: int) -> bool:
+        """Whether this is the request that waits."""
+        asked = None if self._server.is_closed else self._server._engine.asked()
+        return asked is not None and asked.ticket == ticket
 
     def _wanted(self, ticket: int) -> int:
         """How many wait for an outcome, that of a request which waits among them."""
         try:
             return int(self._server._engine.wanted(ticket))
         except LemonrudderError:
-            asked = None if self._server.is_closed else self._server._engine.asked()
-            return int(asked is not None and asked.ticket == ticket)
+            return int(self._waits(ticket))
+
+    def _say(self, ticket: int, contexts: Sequence[Tuple[int, Octets]]) -> None:
+        """Keeps service contexts for the replies to a request until it is answered."""
+        listed(contexts)
+        work = self.works.get(ticket)
+        if self._waits(ticket) if work is None else not work.is_answered:
+            self._contexts[ticket] = tuple(contexts)
+        else:
+            raise LemonrudderError(Error.TICKET)
 
     def _begin(self, asked: Asked, connection: Connection, performer: Performer, returned: Awaitable[Any]) -> None:
         """Parks the request that waits, for a task to perform it; refuses it where that can't be."""
@@ -173,7 +190,6 @@ class Works:
             self._return(work.asked, task.result())
         self._server._tell()
         if not self._server.is_closed:
-            work.connection.go_away()
             self._server._wake(work.connection)
 
     def cut(self, work: _Work, name: str) -> None:
@@ -201,7 +217,6 @@ class Works:
             work.is_answered = True
             self._cut_off(work)
             self._server._tell()
-            work.connection.go_away()
 
     def _raise(self, asked: Asked, raised: BaseException, connection: Connection) -> None:
         """Answers by what a function raised."""
@@ -210,8 +225,8 @@ class Works:
             name = raised.name if isinstance(raised, Refuse) else "TRANSIENT"
             name = name if name in SystemName.__members__ else "TRANSIENT"
             self._server.log.info("%a is refused on %s: %s", asked.operation, connection, name)
-            waits = engine.asked()
-            if isinstance(raised, GiveUp) and waits is not None and waits.ticket == asked.ticket:
+            if isinstance(raised, GiveUp) and self._waits(asked.ticket):
+                self._contexts.pop(asked.ticket, None)
                 engine.give_up()
             else:
                 answer(engine.refuse, name, raised.minor if isinstance(raised, Refuse) else 0)
@@ -240,7 +255,10 @@ class Works:
 
     def _answer(self, asked: Asked, name: str, answer: Callable[..., None], *arguments: Any) -> None:
         """Answers a request; by a system exception of that name where that is no outcome of its operation."""
+        contexts = self._contexts.pop(asked.ticket, None)
         try:
+            if contexts is not None:
+                self._server._engine.reply_contexts(contexts, ticket=asked.ticket)
             answer(*arguments, ticket=asked.ticket)
         except BaseException as error:
             if getattr(error, "number", None) == Error.LOST:
@@ -253,6 +271,7 @@ class Works:
     def _fail(self, asked: Asked, name: str) -> None:
         """Answers by a system exception, COMPLETED_MAYBE. Where even this fails, for want of memory, the server ends:
         the request must not be asked again."""
+        self._contexts.pop(asked.ticket, None)
         try:
             self._server._engine.raise_system(name, 0, Completed.MAYBE, ticket=asked.ticket)
         except LemonrudderError as error:
@@ -271,9 +290,9 @@ class Works:
         for work in list(self.works.values()):
             work.task.cancel()
 
-    async def ends(self, timeout: float) -> None:
-        """Waits until what is under way has ended or is answered, so many seconds at most."""
-        until = self._server._loop.time() + timeout
+    async def ends(self, timeout: Optional[float]) -> None:
+        """Waits until what is under way has ended or is answered, so many seconds at most; None: however long it takes."""
+        until = self._server._loop.time() + (math.inf if timeout is None else timeout)
         while not self._server.is_closed:
             left = [work.task for work in self.works.values() if not work.is_answered]
             seconds = until - self._server._loop.time()

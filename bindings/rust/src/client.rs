@@ -340,6 +340,33 @@ impl Client {
         })
     }
 
+    /// Asks so for such a call by a body of octets: what it asks is given again, but for its
+    /// expiration.
+    ///
+    /// # Errors
+    ///
+    /// As of [`Client::call_raw`] but `Expired` and `Calls`, and `Forward`.
+    pub fn redirect_raw(&mut self, number: i32, call: &RawCall<'_>) -> Result<(), Error> {
+        let body = call.body.as_octets();
+        // SAFETY: the key, the name, the contexts and the body are lent.
+        done(unsafe {
+            sys::lr_client_redirect_raw(
+                &mut self.slot,
+                number.into(),
+                call.wish.number(),
+                call.key.as_ptr().cast(),
+                call.key.len(),
+                call.operation.as_ptr().cast(),
+                call.operation.len(),
+                call.body.order().number(),
+                call.contexts.as_ptr().cast(),
+                call.contexts.len(),
+                body.as_ptr().cast(),
+                body.len(),
+            )
+        })
+    }
+
     /// Cancels a call: whether it was pending, and completes as cancelled.
     ///
     /// # Errors

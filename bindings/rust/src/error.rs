@@ -54,7 +54,8 @@ errors! {
     Asking = LR_E_ASKING,
     /// No request waits.
     Idle = LR_E_IDLE,
-    /// As many requests are parked as may be, or somebody waits there for one that is.
+    /// As many requests are parked as may be; or it is to be given up, and somebody waits on its
+    /// connection for one that is.
     Parks = LR_E_PARKS,
     /// No outcome of the operation, or one that can't be sent.
     Outcome = LR_E_OUTCOME,

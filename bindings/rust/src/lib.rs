@@ -33,6 +33,7 @@ mod ior;
 mod limits;
 mod moment;
 mod numbers;
+mod outcome;
 #[cfg(feature = "std")]
 mod seeds;
 mod server;
@@ -51,8 +52,9 @@ pub use limits::Limits;
 pub use moment::Moment;
 pub use numbers::{
     Completed, Counted, Ended, Fault, LocateStatus, MessageType, Order, Part, Status, SystemName,
-    Version, Wish,
+    Version, Why, Wish,
 };
+pub use outcome::Outcome;
 pub use server::{Due, FtRequest, Request, Server, Settings, Ticket};
 pub use types::Type;
 

@@ -318,6 +318,44 @@ numbers! {
     }
 }
 
+/// Why a connection of a server has ended.
+#[derive(Clone, Copy, Debug, PartialEq, Eq, Hash)]
+#[non_exhaustive]
+pub enum Why {
+    /// It goes on.
+    Open,
+    /// Its stream has a fault.
+    Fault(Fault),
+    /// A message came that only a server sends.
+    Direction,
+    /// The peer sent CloseConnection.
+    Goodbye,
+    /// The peer sent MessageError.
+    Error,
+    /// CloseConnection was said.
+    Farewell,
+    /// A request that came on it was given up.
+    GivenUp,
+    /// Memory was short.
+    Memory,
+}
+
+impl Why {
+    /// What has a number that the library gave.
+    pub(crate) fn of(number: u32) -> Result<Why, crate::Error> {
+        Ok(match number {
+            LR_WHY_OPEN => Why::Open,
+            LR_WHY_DIRECTION => Why::Direction,
+            LR_WHY_GOODBYE => Why::Goodbye,
+            LR_WHY_ERROR => Why::Error,
+            LR_WHY_FAREWELL => Why::Farewell,
+            LR_WHY_GIVEN_UP => Why::GivenUp,
+            LR_WHY_MEMORY => Why::Memory,
+            fault => Why::Fault(Fault::of(fault)?),
+        })
+    }
+}
+
 impl Order {
     /// The order of this machine.
     pub const NATIVE: Order = if cfg!(target_endian = "big") { Order::Big } else { Order::Little };
@@ -377,6 +415,7 @@ mod tests {
         are_named("LR_COUNT_", Counted::from_number);
         are_named("LR_ENDED_", Ended::from_number);
         are_named("LR_FAULT_", Fault::from_number);
+        are_named("LR_WHY_", |number| Why::of(number).ok());
         are_named("LR_MSG_", MessageType::from_number);
     }
 
@@ -387,6 +426,13 @@ mod tests {
             assert_eq!(name.is_some(), number < 6);
             assert!(name.is_none_or(|name| name.number() == number));
             assert_eq!(Fault::from_number(number).is_some(), (1..14).contains(&number));
+            assert_eq!(
+                Why::of(number).ok(),
+                match number {
+                    0 => Some(Why::Open),
+                    _ => Fault::from_number(number).map(Why::Fault),
+                }
+            );
         }
         assert_eq!(Version::of(2).map(|version| version.to_string()), Ok("1.2".to_string()));
         assert_eq!(Version::of(3), Err(Error::Range));

@@ -5,7 +5,8 @@ use crate::contexts::Contexts;
 use crate::error::{self, copied, count, done, sure};
 use crate::sys::{self, lr_request, lr_slot};
 use crate::{
-    Catalogue, Completed, Counted, Error, Moment, Order, Part, Status, SystemName, Version, Wish,
+    Catalogue, Completed, Counted, Error, Moment, Order, Part, Status, SystemName, Version, Why,
+    Wish,
 };
 use alloc::vec::Vec;
 use core::mem::size_of;
@@ -144,7 +145,7 @@ impl Ticket {
 /// ```
 #[derive(Debug)]
 pub struct Server {
-    slot: lr_slot,
+    pub(crate) slot: lr_slot,
     /// The parts of the request that waits, by their numbers; buffers that are used again.
     parts: [Vec<u8>; 4],
 }
@@ -184,19 +185,29 @@ impl Server {
         done(sys::lr_server_lost(&mut self.slot, connection))
     }
 
-    /// Says goodbye: CloseConnection is due, unless the connection's stream has ended. What comes on
-    /// it afterwards has no meaning.
+    /// Says goodbye: CloseConnection is due, unless the connection's stream has ended. It answers how
+    /// many wait there for the outcome of a parked request: it is due behind the last of their
+    /// replies, and now where none does. What comes on the connection from now on has no meaning.
     ///
     /// # Errors
     ///
-    /// `Asking`, `Connection`, `Lost`; and `Parks`, while somebody waits there for the outcome of a
-    /// parked request: feed it no more then, and say goodbye when those are answered.
-    pub fn farewell(&mut self, connection: u64) -> Result<(), Error> {
-        done(sys::lr_server_farewell(&mut self.slot, connection))
+    /// `Asking`, `Connection`, `Lost`.
+    pub fn farewell(&mut self, connection: u64) -> Result<usize, Error> {
+        count(sys::lr_server_farewell(&mut self.slot, connection))
     }
 
-    /// Whether the connection was never opened, is gone, has ended or was said goodbye to, so that
-    /// its socket is to be closed once what is due is sent.
+    /// Why a connection has ended, until it is lost.
+    ///
+    /// # Errors
+    ///
+    /// `Connection`; and `Range`, where this version of the crate has no name for it.
+    pub fn why(&mut self, connection: u64) -> Result<Why, Error> {
+        let number = count(sys::lr_server_why(&mut self.slot, connection))?;
+        Why::of(u32::try_from(number).map_err(|_| Error::Range)?)
+    }
+
+    /// Whether the connection was never opened, is gone, has ended or CloseConnection was said, so
+    /// that its socket is to be closed once what is due is sent.
     pub fn is_closed(&mut self, connection: u64) -> bool {
         sure(sys::lr_server_is_closed(&mut self.slot, connection)) != 0
     }
@@ -411,14 +422,24 @@ impl Server {
         status: Status,
         body: &Writer,
     ) -> Result<(), Error> {
-        let (order, octets) = (body.order().number(), body.as_octets());
+        self.reply(ticket, status, body.order(), body.as_octets())
+    }
+
+    /// Answers by the body of a Reply.
+    pub(crate) fn reply(
+        &mut self,
+        ticket: Ticket,
+        status: Status,
+        order: Order,
+        octets: &[u8],
+    ) -> Result<(), Error> {
         // SAFETY: the octets are lent.
         done(unsafe {
             sys::lr_server_answer_raw(
                 &mut self.slot,
                 ticket.0,
                 status.number(),
-                order,
+                order.number(),
                 octets.as_ptr().cast(),
                 octets.len(),
             )
@@ -587,7 +608,7 @@ pub struct FtRequest<'a> {
 /// [`Server::asked`] gives it again.
 #[derive(Debug)]
 pub struct Request<'s> {
-    server: &'s mut Server,
+    pub(crate) server: &'s mut Server,
     said: lr_request,
     order: Order,
     version: Version,
@@ -619,11 +640,22 @@ impl Request<'_> {
         &self.server.parts[sys::LR_PART_OPERATION as usize]
     }
 
-    /// The arguments as octets: where the operation has types, in big order and aligned from place
-    /// 0; of a raw one as they came.
+    /// The body as it came, which begins with the arguments.
     #[must_use]
     pub fn body(&self) -> &[u8] {
         &self.server.parts[sys::LR_PART_BODY as usize]
+    }
+
+    /// The order of the body's numbers.
+    #[must_use]
+    pub fn order(&self) -> Order {
+        self.order
+    }
+
+    /// The place of the body's first octet, from which it is aligned.
+    #[must_use]
+    pub fn place(&self) -> u64 {
+        self.said.body_at
     }
 
     /// Reads the arguments.

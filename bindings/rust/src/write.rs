@@ -108,7 +108,7 @@ pub fn reply(
 ///
 /// # Errors
 ///
-/// `Memory`.
+/// None: the library takes no memory for it.
 pub fn cancel_request(version: Version, order: Order, request_id: u32) -> Result<Vec<u8>, Error> {
     let (version, order) = (version.number(), order.number());
     // SAFETY: the room is lent.
@@ -146,7 +146,7 @@ pub fn locate_request(
 ///
 /// # Errors
 ///
-/// `Range`, where its status wants a body, and `Memory`.
+/// `Range`: its version has no such status.
 pub fn locate_reply(
     version: Version,
     order: Order,
@@ -170,7 +170,7 @@ pub fn locate_reply(
 ///
 /// # Errors
 ///
-/// `Memory`.
+/// None: the library takes no memory for it.
 pub fn close_connection() -> Result<Vec<u8>, Error> {
     // SAFETY: the room is lent.
     written(MOST, |room| unsafe { sys::lr_write_close(room.as_mut_ptr().cast(), room.len()) })
@@ -180,7 +180,7 @@ pub fn close_connection() -> Result<Vec<u8>, Error> {
 ///
 /// # Errors
 ///
-/// `Memory`.
+/// None: the library takes no memory for it.
 pub fn message_error() -> Result<Vec<u8>, Error> {
     // SAFETY: the room is lent.
     written(MOST, |room| unsafe { sys::lr_write_error(room.as_mut_ptr().cast(), room.len()) })

@@ -2,8 +2,8 @@
 
 use lemonrudder::cdr::Writer;
 use lemonrudder::{
-    write, Assembler, Call, Client, Completed, Ended, Error, Ior, Limits, Moment, Order, Status,
-    Type, Version,
+    write, Assembler, Call, Client, Completed, Ended, Error, Ior, Limits, Moment, Order, RawCall,
+    Status, Type, Version, Wish,
 };
 
 const CALL: Call =
@@ -193,6 +193,43 @@ fn a_forward_is_followed_under_the_same_number() -> Result<(), Error> {
     assert!(client.forwarded()?.is_none());
     client.resend(Moment(60))?;
     assert_eq!(sent(&mut client)?, (2, 1, b"key".to_vec()));
+    Ok(())
+}
+
+#[test]
+fn so_is_one_of_a_raw_call() -> Result<(), Error> {
+    let mut client = Client::open("A")?;
+    client.keep_forward(true);
+    client.connected(Moment(50))?;
+    let mut arguments = Writer::new(Order::Little);
+    arguments.long(7)?;
+    let contexts = write::contexts(Order::Little, &[(7, b"seven")])?;
+    let call = RawCall {
+        key: b"c",
+        operation: "get",
+        wish: Wish::Full,
+        body: &arguments,
+        contexts: &contexts,
+        expiration: Moment(100),
+    };
+    assert_eq!(client.call_raw(Moment(50), &call)?, 1);
+    client.take_output();
+    assert_eq!(client.redirect_raw(1, &call), Err(Error::Forward));
+    let mut body = Writer::new(Order::Big);
+    Ior::iiop("IDL:A:1.0", Version::V12, "host", 9, b"key")?.write(&mut body)?;
+    client.feed(&reply(Status::LocationForward, body.as_octets())?)?;
+    let none = RawCall { contexts: b"\0\0", ..call };
+    assert_eq!(client.redirect_raw(1, &none), Err(Error::Short));
+    client.redirect_raw(1, &RawCall { key: b"key", ..call })?;
+    client.resend(Moment(60))?;
+    let octets = client.take_output();
+    assert!(octets.ends_with(arguments.as_octets()));
+    let mut assembler = Assembler::open(Limits::default())?;
+    assert_eq!(assembler.feed(&octets)?, octets.len());
+    let mut message = assembler.message()?.expect("it is whole");
+    assert_eq!((message.key(), message.order()), (Some(&b"key"[..]), Order::Little));
+    let contexts: Result<Vec<_>, Error> = message.contexts().collect();
+    assert!(contexts?.contains(&(7, b"seven".to_vec())));
     Ok(())
 }
 

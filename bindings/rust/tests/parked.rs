@@ -7,7 +7,7 @@ use lemonrudder::cdr::Writer;
 use lemonrudder::write::{self, Request};
 use lemonrudder::{
     Assembler, Catalogue, Counted, Error, FtRequest, Limits, MessageType, Moment, Order, Part,
-    Server, Settings, Signature, Status, SystemName, Ticket, Type, Version, Wish,
+    Server, Settings, Signature, Status, SystemName, Ticket, Type, Version, Why, Wish,
 };
 
 const NOW: Moment = Moment(50);
@@ -162,13 +162,16 @@ fn as_many_are_parked_as_may_be() -> Result<(), Error> {
 fn goodbye_comes_after_replies() -> Result<(), Error> {
     let mut server = connected(&Settings::default())?;
     let parked = park(&mut server, 1, &[deposit(1, 1)?, deposit(2, 2)?].concat())?;
+    assert_eq!((server.farewell(2), server.farewell(1)), (Ok(0), Ok(2)));
+    assert!(server.is_closed(2) && !server.take_output(2).is_empty());
+    // what comes now means nothing
+    let late = deposit(3, 3)?;
+    assert_eq!(server.serve(1, NOW, &late, |_| panic!("it is asked"))?, late.len());
     for (ticket, result) in [(parked[1], 2), (parked[0], 1)] {
-        assert_eq!(server.farewell(1), Err(Error::Parks));
-        assert!(!server.is_closed(1));
+        assert!(!server.is_closed(1) && server.why(1) == Ok(Why::Open));
         server.answer(ticket, &long(result)?)?;
     }
-    server.farewell(1)?;
-    assert!(server.is_closed(1));
+    assert!(server.is_closed(1) && server.why(1) == Ok(Why::Farewell));
     let due: Vec<_> = server.due().collect();
     assert_eq!((due.len(), due[0].0), (1, 1));
     let said: Vec<_> = messages(&due[0].1)?.into_iter().map(|(kind, id, _)| (kind, id)).collect();

@@ -6,8 +6,8 @@ use bank::{Bank, DEPOSIT, OVERDRAWN};
 use lemonrudder::cdr::{Reader, Writer};
 use lemonrudder::write::{self, Request};
 use lemonrudder::{
-    Assembler, Catalogue, Completed, Error, FtRequest, Limits, Message, MessageType, Moment, Order,
-    Server, Settings, Signature, Status, SystemName, Type, Version, Wish,
+    Assembler, Catalogue, Completed, Error, Fault, FtRequest, Limits, Message, MessageType, Moment,
+    Order, Server, Settings, Signature, Status, SystemName, Type, Version, Why, Wish,
 };
 
 const NOW: Moment = Moment(50);
@@ -241,6 +241,61 @@ fn what_is_due_belongs_to_a_connection() -> Result<(), Error> {
     let closed = read(&server.take_output(2), |message| message.message_type())?;
     assert_eq!(closed, MessageType::CloseConnection);
     assert!(server.is_closed(2) && !server.is_closed(1));
+    Ok(())
+}
+
+#[test]
+fn a_connection_says_why_it_ended() -> Result<(), Error> {
+    let mut server = connected()?;
+    let ends = [
+        (b"nonsense, and so on".to_vec(), Why::Fault(Fault::Magic)),
+        (write::reply(Version::V12, Order::Big, 1, Status::NoException, b"")?, Why::Direction),
+        (write::close_connection()?, Why::Goodbye),
+        (write::message_error()?, Why::Error),
+        (deposit(1, 1)?, Why::GivenUp),
+    ];
+    for (connection, (octets, why)) in (2..).zip(ends) {
+        server.connect(connection)?;
+        assert_eq!(server.why(connection), Ok(Why::Open));
+        let served = server.serve(connection, NOW, &octets, |request| {
+            request.give_up();
+            Ok(())
+        });
+        assert_eq!(served.is_err(), why == Why::GivenUp); // (it is gone)
+        assert_eq!((server.why(connection), server.is_closed(connection)), (Ok(why), true));
+    }
+    assert_eq!(server.farewell(1), Ok(0));
+    assert_eq!(server.why(1), Ok(Why::Farewell));
+    server.lost(1)?;
+    assert_eq!(server.why(1), Err(Error::Connection));
+    Ok(())
+}
+
+#[test]
+fn a_body_is_as_it_came() -> Result<(), Error> {
+    let mut server = connected()?;
+    let mut body = Writer::new(Order::Little);
+    body.string("alice")?.longlong(-9)?;
+    let octets = write::request(&write::Request {
+        version: Version::V12,
+        order: Order::Little,
+        request_id: 1,
+        wish: Wish::Full,
+        key: b"bank",
+        operation: "deposit",
+        context: None,
+        body: body.as_octets(),
+    })?;
+    let mut asked = 0;
+    server.serve(1, NOW, &octets, |request| {
+        asked += 1;
+        assert_eq!((request.body(), request.order()), (body.as_octets(), Order::Little));
+        assert_eq!(request.place(), (octets.len() - body.as_octets().len()) as u64);
+        let mut reader = request.reader();
+        assert_eq!((reader.text()?, reader.longlong()?), ("alice", -9));
+        request.answer(Writer::new(Order::Big).longlong(1)?)
+    })?;
+    assert_eq!(asked, 1);
     Ok(())
 }
 

@@ -20,7 +20,7 @@ use Rattle.cdr_core.proofs.Only.{members_only, only}
 use Rattle.cdr_core.proofs.Stops.{fails, members_tell, tells}
 
 -- a reader does not fail where a front is a spelling
-gets_or_fails : {X : Type 0} (A : X → ℕ → List ℕ → Type 0) (r : ℕ → List ℕ → Read X) → ((x : X) → Gets (A x) r x) → (o : ℕ) (octets : List ℕ) (f : Fault) → r o octets ≡ Err f → (x : X) (front rest : List ℕ) → octets ≡ front ++ rest → A x o front → ⊥
+pub gets_or_fails : {X : Type 0} (A : X → ℕ → List ℕ → Type 0) (r : ℕ → List ℕ → Read X) → ((x : X) → Gets (A x) r x) → (o : ℕ) (octets : List ℕ) (f : Fault) → r o octets ≡ Err f → (x : X) (front rest : List ℕ) → octets ≡ front ++ rest → A x o front → ⊥
 gets_or_fails {X} A r gets o octets f h x front rest is s =
     let e : ◌≡◌ {A = Read X} (Ok (x, o + length front, rest)) (Err f) = sym (gets x o front rest s) ∙ ap (r o) (sym is) ∙ h in
     absurd cc

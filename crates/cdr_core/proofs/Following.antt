@@ -38,7 +38,7 @@ drop_none : {A : Type 0} (n : ℕ) → drop {A = A} n [] ≡ []
 drop_none zero = refl
 drop_none (suc n) = refl
 
-drop_drop : {A : Type 0} (i n : ℕ) (xs : List A) → drop n (drop i xs) ≡ drop (i + n) xs
+pub drop_drop : {A : Type 0} (i n : ℕ) (xs : List A) → drop n (drop i xs) ≡ drop (i + n) xs
 drop_drop zero n xs = let none : n ≡ 0 + n = omega arith in ap (λ m. drop m xs) none
 drop_drop (suc i) n [] = drop_none n ∙ sym (drop_none (suc i + n))
 drop_drop (suc i) n (x ∷ xs) =

@@ -21,7 +21,7 @@ use Rattle.cdr_core.proofs.Turns.{each_done, each_more}
 use Rattle.cdr_core.proofs.Views.{values_of-push}
 
 -- without padding a number is the next octets
-number_here : (order : Order) (n p x : ℕ) (octets : List ℕ) → n ≤ length octets → padding p n ≡ 0 → x ≡ number_of order n (take n octets) → number_at order n p octets ≡ Ok (x, p + n, drop n octets)
+pub number_here : (order : Order) (n p x : ℕ) (octets : List ℕ) → n ≤ length octets → padding p n ≡ 0 → x ≡ number_of order n (take n octets) → number_at order n p octets ≡ Ok (x, p + n, drop n octets)
 unfolding number_at part_at
 number_here order n p x octets le none is =
     let t : ltb (length octets) n ≡ false = le-ltb _ _ le in

@@ -2,6 +2,7 @@ pub mod Steps
 pub mod Fields
 pub mod Enclosing
 pub mod Turns
+pub mod Passed
 pub mod Appending
 pub mod Nul
 pub mod Views
@@ -9,6 +10,7 @@ pub mod Loops
 pub mod Memory
 pub mod Here
 pub mod Following
+pub mod Counted
 pub mod Taken
 pub mod Found
 pub mod Gets

@@ -61,7 +61,7 @@ each_done one vs n i o octets total le h =
     let none : n - i ≡ 0 = omega arith in
     sym h ∙ ap (λ m. with_front vs (each_at one m o octets)) none ∙ ap (λ (ws : Values). Ok (ws, o, octets)) (joined-none vs)
 
-passing-then : (v : Value) (r : Read Values) → passing (then v r) ≡ passing r
+pub passing-then : (v : Value) (r : Read Values) → passing (then v r) ≡ passing r
 passing-then v (Ok x) = refl
 passing-then v (Err f) = refl
 

@@ -1,4 +1,4 @@
--- What `read` and `read_list` return.
+-- What `read`, `read_list` and `pass_list` return.
 use Rattle.std.specs.Prelude.{◌≡◌, ℕ, ◌≤◌, length, take, List, Result, Ok, Err, ⊤}
 use Rattle.std.proofs.Common.{Vec, Global}
 use Rattle.cdr_core.specs.declared.order.Order.{Order}
@@ -41,3 +41,8 @@ ListAnswers ts order = Returns (λ v. SpellsMembers ts order (values_of v.items)
 -- it is those values and that length, unless an allocation failed
 abbrev pub ListReads : Values → ℕ → Result (Vec Val Global × ℕ) CdrError → Type 0
 ListReads = ReturnsThat (λ v. values_of v.items)
+
+-- what `pass_list` returns: how many octets from the front on spell values; or the first fault
+abbrev pub ListPasses : Forms → Order → ℕ → List ℕ → Result ℕ Fault → Type 0
+ListPasses ts order o octets (Ok n) = (n ≤ length octets) × ((vs : Values) × SpellsMembers ts order vs o (take n octets))
+ListPasses ts order o octets (Err f) = StopsInMembers ts order o octets f

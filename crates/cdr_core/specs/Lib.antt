@@ -10,7 +10,7 @@
 -- What the calls do:
 --   Reading     reading from left to right, as a function
 --   Memory      where reading may run out of memory
---   Answering   what `read` and `read_list` return
+--   Answering   what `read`, `read_list` and `pass_list` return
 --   Fitting     which types are valid, and which values are of a type
 --   Writing     the octets that are written, and what a `Writer` appends
 --   Octets      values in which each octet is one

@@ -2,6 +2,7 @@
 -- uses them: a reader who asks what is promised can leave this file out.
 use Rattle.std.specs.Prelude.{◌≡◌, ◌≤◌, ◌+◌, ◌-◌, ℕ, ℤ, List, ◌++◌, length, Result, Ok, Err, ⊤, ◌⊎◌}
 use Rattle.cdr_core.specs.declared.fault.CdrError.{CdrError}
+use Rattle.cdr_core.specs.declared.fault.Fault.{Fault}
 use Rattle.cdr_core.specs.declared.fault.CdrError.TheVariants as errors
 use Rattle.cdr_core.specs.declared.order.Order.{Order}
 use Rattle.cdr_core.specs.declared.basic.Basic.{Basic}
@@ -42,12 +43,31 @@ abbrev pub GivesUnlessMemory : {X Y : Type 0} → (X → Y) → Result X CdrErro
 GivesUnlessMemory view (Ok x) read may old new = (read old.place old.rest ≡ Ok (view x, new.place, new.rest)) × (new.order ≡ old.order)
 GivesUnlessMemory view (Err e) read may old new = Fails e (read old.place old.rest) × IfMemory e (may old.place old.rest new.place)
 
+-- what f makes of the value that is read
+abbrev pub seen : {A B : Type 0} → (A → B) → Read A → Read B
+seen f read = read >>= λ x. Ok (f x.0, x.1, x.2)
+
+-- A call returns what f makes of the value that reading gives, and goes to the place after it; or its fault. The cursor
+-- isn't used again after an error.
+abbrev pub GivesOf : {X Y : Type 0} → (Y → X) → Result X Fault → (ℕ → List ℕ → Read Y) → Position → Position → Type 0
+GivesOf f (Ok x) read old new = (seen f (read old.place old.rest) ≡ Ok (x, new.place, new.rest)) × (new.order ≡ old.order)
+GivesOf f (Err e) read old new = read old.place old.rest ≡ Err e
+
+-- it passes over the value
+abbrev pub Passes : {Y : Type 0} → Result Unit Fault → (ℕ → List ℕ → Read Y) → Position → Position → Type 0
+Passes = GivesOf (λ v. tt)
+
 -- a boolean, a number or an enumeration
 abbrev pub IsBasic : Form → Type 0
 IsBasic form.boolean = ⊤
 IsBasic (form.number kind) = ⊤
 IsBasic (form.enumeration n) = ⊤
 IsBasic _ = ⊥
+
+-- numbers of n octets
+abbrev pub IsNumberOf : Form → ℕ → Type 0
+IsNumberOf (form.number kind) n = n ≡ form.size kind
+IsNumberOf _ n = ⊥
 
 -- values, and others after them
 abbrev pub joined : Values → Values → Values

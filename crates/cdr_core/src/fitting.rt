@@ -13,7 +13,7 @@ use crate::values::Val;
 use crate::writing::is_countable;
 
 /// The label that a discriminator stands for.
-fn label_of(value: &Val) -> i128
+pub(crate) fn label_of(value: &Val) -> i128
     ensures { result ≡ label (value_of value.now) }
 {
     match value {

@@ -24,7 +24,7 @@ use std::alloc::{AllocError, Global};
 
 /// Reads a boolean, a number or an enumeration.
 #[tactic(auto, unfolding(crate::specs::Reading::value_at))]
-fn basic(ty: &Ty, cursor: &mut Cursor) -> Result<Val, Fault>
+pub(crate) fn basic(ty: &Ty, cursor: &mut Cursor) -> Result<Val, Fault>
     requires { IsBasic (form_of ty.now) }
     ensures { Gives value_of result (value_at (form_of ty.now) cursor.old.order) cursor.old cursor.new }
 {

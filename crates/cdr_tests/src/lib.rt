@@ -10,6 +10,8 @@ mod lists;
 #[cfg(test)]
 mod orders;
 #[cfg(test)]
+mod passing;
+#[cfg(test)]
 mod references;
 #[cfg(test)]
 mod steps;

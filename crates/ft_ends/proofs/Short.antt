@@ -18,7 +18,7 @@ use Rattle.ft_log.specs.Performed.{Performed}
 use Rattle.ft_log.specs.declared.system_exception.SystemName.{SystemName}
 use Rattle.ft_log.specs.declared.system_exception.SystemName.TheVariants as name
 use Rattle.ft_orb.specs.ExactlyOnce.{Absent, Arrival, Bad, Field, Present, acts, answer_by_field, has_key, live_keys, new_answer, outcome_kept, outcome_of, performed_after, performed_of, state_after, state_after_call}
-use Rattle.ft_objects.specs.Interfaces.{AreArgumentsOf, Interface, IsValidInterface, no_object, no_operation, operation, raw_operation}
+use Rattle.ft_objects.specs.Interfaces.{AreArgumentsOf, Interface, IsValidInterface, checked_operation, no_object, no_operation, operation, raw_operation}
 use Rattle.ft_orb.specs.Laws.{CallsAreAsked}
 use Rattle.ft_orb.specs.Outputs.{Made}
 use Rattle.ft_objects.specs.Replies.{answered_as}
@@ -84,6 +84,7 @@ given-fit fits (operation t) body arguments valid are given =
     let own : AreOctets given.front = each-left (λ x. x < 256) given.front given.rest (subst AreOctets given.octets_are are) in
     members-fit fits t.arguments body.order body.place given.front arguments valid.0 own given.spelled
 given-fit fits raw_operation body arguments valid are given = (body, given)
+given-fit fits (checked_operation t) body arguments valid are given = (body, given)
 
 module _ {State : Type 0} (meaning : Meaning State) (made : Made State) (fits : SpelledFits) (calls : CallsAreAsked) (promises : IsServant meaning) where
   -- what is asked has arguments of its operation

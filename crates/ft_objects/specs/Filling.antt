@@ -8,7 +8,7 @@ use Rattle.std.proofs.Common.{Vec, Global}
 use Rattle.cdr_core.specs.Form as form
 use Rattle.cdr_core.specs.Spelling.{IsClean}
 use Rattle.ft_objects.specs.Catalogues.{Offer}
-use Rattle.ft_objects.specs.Interfaces.{Interface, Types, no_object, no_operation, operation, raw_operation, types_of}
+use Rattle.ft_objects.specs.Interfaces.{Interface, Types, checked_operation, no_object, no_operation, operation, raw_operation, types_of}
 use Rattle.ft_objects.specs.Sound.{IsSound}
 use Rattle.ft_objects.specs.declared.error.InterfacesError.{InterfacesError}
 use Rattle.ft_objects.specs.declared.error.InterfacesError.TheVariants.{NotValid, NoObject, RawObject, Taken, Memory}
@@ -119,6 +119,7 @@ at m key = get_by (λ k. slice_cmp nat_cmp key k.items) m
 abbrev pub offered_in : Option Offered → Interface
 offered_in None = no_operation
 offered_in (Some (offered.Typed t)) = operation (types_of t.signature)
+offered_in (Some (offered.Checked t)) = checked_operation (types_of t.signature)
 offered_in (Some offered.Raw) = raw_operation
 
 -- what operations of the code have under a name

@@ -3,7 +3,7 @@
 ghost use Rattle.std.specs.Prelude.{◌≡◌, ◌↔◌, IfErr, IsTrue, OnErr, OnOk, Some, None, false, map, option_copied, true};
 ghost use Rattle.ft_objects.specs.Adding.{longer_front};
 ghost use Rattle.cdr_core.specs.Spelling.{IsClean};
-ghost use Rattle.ft_objects.specs.Interfaces.{operation, raw_operation, types_of};
+ghost use Rattle.ft_objects.specs.Interfaces.{checked_operation, operation, raw_operation, types_of};
 ghost use Rattle.ft_objects.specs.Filling.{AreClean};
 
 use crate::catalogue::Catalogue;
@@ -140,6 +140,29 @@ impl Interfaces {
     {
         match Typed::new(signature) {
             Some(typed) => self.add(key, name, Offered::Typed(typed)),
+            None => Err(InterfacesError::NotValid),
+        }
+    }
+
+    /// Adds an operation that is checked: its bodies are octets, as of a raw one, and those of its requests are judged by
+    /// the types of its arguments.
+    pub fn add_checked_operation(
+        &mut self,
+        key: &[u8],
+        name: &[u8],
+        signature: Signature,
+    ) -> Result<(), InterfacesError>
+        ensures can { OnOk result (CanBeAdded name.now (checked_operation (types_of signature))) }
+        ensures takes { OnOk result (TakesOperations (offer_of self.old) (raw_objects self.old) key.now) }
+        ensures free { OnOk result (IsFree (offer_of self.old) key.now name.now) }
+        ensures ok { OnOk result (offer_of self.new ≡ with_operation key.now name.now (checked_operation (types_of signature)) (offer_of self.old)) }
+        ensures why { IfErr result (λ e. IsNotValidOr (CanBeAdded name.now (checked_operation (types_of signature))) (IsWhyNothing (offer_of self.old) (raw_objects self.old) key.now (IsFree (offer_of self.old) key.now name.now)) e) }
+        ensures err { OnErr result (offer_of self.new ≡ offer_of self.old) }
+        ensures raw { raw_objects self.new ≡ raw_objects self.old }
+        ensures ids { ids_of self.new ≡ ids_of self.old }
+    {
+        match Typed::new(signature) {
+            Some(typed) => self.add(key, name, Offered::Checked(typed)),
             None => Err(InterfacesError::NotValid),
         }
     }

@@ -27,6 +27,7 @@ const OBJECT: &[u8] = b"IDL:omg.org/CORBA/Object:1.0";
 #[derive(Drop)]
 pub(crate) enum Offered {
     Typed(Typed),
+    Checked(Typed),
     Raw,
 }
 
@@ -127,6 +128,7 @@ impl Object {
         };
         match operations.by_name.get(name) {
             Some(Offered::Typed(typed)) => Lookup::Operation(&typed.signature),
+            Some(Offered::Checked(typed)) => Lookup::Checked(&typed.signature),
             Some(Offered::Raw) => Lookup::Raw,
             None => Lookup::NoOperation,
         }

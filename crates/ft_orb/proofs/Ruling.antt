@@ -7,7 +7,7 @@ use Rattle.cdr_core.specs.Value.{Values}
 use Rattle.ft_log.specs.Performed.{Performed}
 use Rattle.ft_objects.specs.Catalogues.{Offer}
 use Rattle.ft_orb.specs.Answers.{Agrees, Answer, AnswersHaveARule, AreAnswers, OwnersAreServants, answer_for, calls_of, refusal, rule_of}
-use Rattle.ft_objects.specs.Interfaces.{AreArgumentsOf, Interface, IsOutcomeOf, no_object, no_operation, operation, raw_operation}
+use Rattle.ft_objects.specs.Interfaces.{AreArgumentsOf, Interface, IsOutcomeOf, checked_operation, no_object, no_operation, operation, raw_operation}
 use Rattle.ft_objects.specs.Replies.{IsRenderable}
 use Rattle.ft_orb.specs.Requests.{Call}
 
@@ -36,6 +36,7 @@ refusal-fits no_object arguments h = absurd h
 refusal-fits no_operation arguments h = absurd h
 refusal-fits (operation t) arguments h = tt
 refusal-fits raw_operation arguments h = tt
+refusal-fits (checked_operation t) arguments h = tt
 
 refusal-sent : IsRenderable refusal
 refusal-sent = search rules

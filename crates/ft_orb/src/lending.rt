@@ -17,7 +17,7 @@ use crate::carrying::can_carry;
 use crate::counts::Counts;
 use crate::ending::{Ended, Ending};
 use crate::engine::Engine;
-use crate::outcomes::{is_answer_of, is_renderable};
+use crate::outcomes::may_answer;
 use ft_log::Outcome;
 use ft_objects::Catalogue;
 use giop_link::Inbound;
@@ -111,11 +111,8 @@ impl<C: Catalogue + Drop> Engine<C> {
         }
         let keeper = &self.keeper;
         let waiting = &keeper.slot;
-        let lookup = self
-            .offering
-            .catalogue
-            .interface(&waiting.object_key, &waiting.operation);
-        is_renderable(outcome) && is_answer_of(lookup, outcome)
+        let catalogue = &self.offering.catalogue;
+        may_answer(catalogue, &waiting.object_key, &waiting.operation, outcome)
     }
 
     /// Whether an outcome can answer the request of this number (`can_answer`), and the Reply can carry these service contexts:

@@ -14,7 +14,7 @@ ghost use Rattle.ft_objects.specs.Replies.{IsRenderable, body_limit, body_of, or
 
 use cdr_core::{Ty, Val, are_writable, end_of_list, fits, has_no_nul};
 use ft_log::{Completion, Outcome, SystemName};
-use ft_objects::Lookup;
+use ft_objects::{Catalogue, Lookup};
 
 /// The place where the body of a Reply begins (GIOP 9.4.1, GIOP 9.4.3).
 const BODY: u64 = 24;
@@ -142,5 +142,26 @@ pub(crate) fn is_answer_of(lookup: Lookup<'_>, outcome: &Outcome) -> bool
             has_no_nul(id) && is_raised(&types.raises, id, members)
         }
         _ => false,
+    }
+}
+
+/// Whether an outcome can be sent, and may be handed in for an operation, by what a catalogue has on offer. The operation is
+/// looked up only where its types judge values.
+pub(crate) fn may_answer<C: Catalogue>(
+    catalogue: &C,
+    key: &[u8],
+    operation: &[u8],
+    outcome: &Outcome,
+) -> bool
+    ensures { IsTrue result ↔ (IsRenderable (performed_in outcome.now) × IsAnswerOf ((C.offers catalogue.now).interface key.now operation.now) (performed_in outcome.now)) }
+{
+    if !is_renderable(outcome) {
+        return false;
+    }
+    match outcome {
+        Outcome::System(..) | Outcome::Raw(..) => true,
+        Outcome::Returned(_) | Outcome::Raised(..) => {
+            is_answer_of(catalogue.interface(key, operation), outcome)
+        }
     }
 }

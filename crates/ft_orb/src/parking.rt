@@ -26,7 +26,7 @@ use crate::ending::{Ended, Ending};
 use crate::engine::Engine;
 use crate::error::{ParkError, ServeError};
 use crate::keeper;
-use crate::outcomes::{is_answer_of, is_renderable};
+use crate::outcomes::may_answer;
 use crate::parked::Parked;
 use crate::pausing::Pending;
 use crate::waiters::{copy_of, count_all, count_going, is_going, own_waiter};
@@ -105,11 +105,9 @@ impl<C: Catalogue + Drop> Engine<C> {
             return false;
         };
         let waiting = &parked.pending.waiting;
-        let lookup = self
-            .offering
-            .catalogue
-            .interface(&waiting.object_key, &waiting.operation);
-        parked.outcome.is_none() && is_renderable(outcome) && is_answer_of(lookup, outcome)
+        let catalogue = &self.offering.catalogue;
+        parked.outcome.is_none()
+            && may_answer(catalogue, &waiting.object_key, &waiting.operation, outcome)
     }
 
     /// Parks the request of this number, which waits (`is_open`): its outcome comes later, by `settle`, and the engine goes

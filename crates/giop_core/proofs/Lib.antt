@@ -12,6 +12,7 @@ pub mod HeaderLemmas
 pub mod ItemsPut
 pub mod Longs
 pub mod Whole
+pub mod Short
 pub mod Retention
 pub mod FirstContext
 pub mod ReadAgain

@@ -6,9 +6,8 @@ use Rattle.std.specs.declared.alloc.AllocError.{AllocError}
 use Rattle.cdr_core.specs.declared.order.Order.{Order}
 use Rattle.cdr_core.proofs.Appending.{keeps_all, keeps_behind, place_behind, puts_next}
 use Rattle.cdr_core.specs.Private.{Keeps}
-use Rattle.cdr_core.specs.Writing.{Appends, PutsAll, number_octets, octets_of, octets_of_all, place_in, AreWritable, IsWritable, Puts, Writing}
-use Rattle.cdr_core.specs.Numbers.{digits_of, padding}
-use Rattle.cdr_core.specs.Parts.{ulong_value}
+use Rattle.cdr_core.specs.Writing.{Appends, PutsAll, number_octets, octets_of, octets_of_all, place_in, AreWritable, IsWritable, Writing}
+use Rattle.cdr_core.specs.Numbers.{padding}
 use Rattle.cdr_core.specs.Value as value
 use Rattle.cdr_core.specs.Value.{Value, Values, no_values, values}
 use Rattle.giop_core.specs.declared.header.MessageKind.{MessageKind}
@@ -19,11 +18,10 @@ use Rattle.giop_core.specs.declared.error.WriteError.{WriteError}
 use Rattle.giop_core.specs.declared.error.WriteError.TheVariants.{TooLong, Memory}
 use Rattle.giop_core.specs.declared.request.ReplyWish.{ReplyWish}
 use Rattle.giop_core.specs.Content.{nth, Addressed}
-use Rattle.giop_core.specs.Headers.{header_octets}
 use Rattle.giop_core.specs.Items.{list_value}
-use Rattle.giop_core.specs.Written.{aligned_octets, behind_gap, behind_header, body_octets, cancel_fields, exception_body, header_for, locate_request_fields, message_octets, reply_fields, request_fields, target_in, with_body}
+use Rattle.giop_core.specs.Written.{aligned_octets, behind_gap, behind_header, body_octets, exception_body, locate_request_fields, reply_fields, request_fields, target_in, with_body}
 use Rattle.giop_core.specs.Private.{AreLong, IsLong, Adds, Begins, Checks}
-use Rattle.giop_core.proofs.Longs.{first_long, four, rest_long}
+use Rattle.giop_core.proofs.Longs.{first_long, rest_long}
 
 -- a gap that belongs to octets
 
@@ -276,28 +274,3 @@ reply_contexts_long V12 id status contexts long = nth_long 2 (reply_fields V12 i
 
 pub locate_target_long : (version : Version) (id : ℕ) (to : Addressed) → IsLong (target_in version to) → AreLong (values (locate_request_fields version id to))
 locate_target_long version id to long = nth_long 1 (locate_request_fields version id to) long
-
--- a cancel is its header and an id
-
-cancel_is : (version : Version) (order : Order) (id : ℕ) → behind_header version kind.CancelRequest order (cancel_fields id) no_values ≡ digits_of order 4 id
-unfolding behind_header
-cancel_is V10 order id = append-nil (digits_of order 4 id ++ []) ∙ append-nil (digits_of order 4 id)
-cancel_is V11 order id = append-nil (digits_of order 4 id ++ []) ∙ append-nil (digits_of order 4 id)
-cancel_is V12 order id = append-nil (digits_of order 4 id ++ []) ∙ append-nil (digits_of order 4 id)
-
-module _ (version : Version) (order : Order) (id : ℕ) (old begun new : List ℕ) (w : Writing)
-    (begins : begun ≡ old ++ header_octets (header_for version kind.CancelRequest order 4)) (is : w ≡ record { order = order; at = 12; start = length begun }) where
-  pub cancel_whole : new ≡ begun ++ octets_of w.order (ulong_value id) (place_in w begun) → new ≡ old ++ message_octets version kind.CancelRequest order (behind_header version kind.CancelRequest order (cancel_fields id) no_values)
-  cancel_whole e =
-      let here : 12 + (length begun - length begun) ≡ 12 = omega arith in
-      let told : new ≡ begun ++ number_octets order 4 (12 + (length begun - length begun)) id = rw is at e in
-      let header = header_octets (header_for version kind.CancelRequest order 4) in
-      let four_of : length (behind_header version kind.CancelRequest order (cancel_fields id) no_values) ≡ 4 = ap length (cancel_is version order id) ∙ four order id in
-      told ∙ ap (λ o. begun ++ number_octets order 4 o id) here ∙ ap (λ xs. xs ++ digits_of order 4 id) begins ∙ append_assoc old header (digits_of order 4 id)
-      ∙ ap (λ xs. old ++ (header ++ xs)) (sym (cancel_is version order id))
-      ∙ ap (λ n. old ++ (header_octets (header_for version kind.CancelRequest order n) ++ behind_header version kind.CancelRequest order (cancel_fields id) no_values)) (sym four_of)
-
-  pub cancel_puts : (r : Result (Unit {0}) AllocError) → Puts w (ulong_value id) r begun new
-      → MatchResult r (λ _. new ≡ old ++ message_octets version kind.CancelRequest order (behind_header version kind.CancelRequest order (cancel_fields id) no_values)) (λ _. Keeps old new)
-  cancel_puts (Ok x) e = cancel_whole e
-  cancel_puts (Err x) e = record { more = header_octets (header_for version kind.CancelRequest order 4); parts = e ∙ begins }

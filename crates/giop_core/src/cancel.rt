@@ -1,7 +1,6 @@
 //! CancelRequest (GIOP 9.4.4).
 
 ghost use Rattle.std.specs.Prelude.{◌≡◌, ◌++◌, MatchResult};
-ghost use Rattle.cdr_core.specs.Private.{Keeps};
 ghost use Rattle.cdr_core.specs.Value.{no_values};
 ghost use Rattle.giop_core.specs.Places.{FindsParts};
 ghost use Rattle.giop_core.specs.Written.{behind_header, cancel_fields, message_octets};
@@ -12,8 +11,7 @@ use crate::error::MessageFault;
 use crate::finder::Finder;
 use crate::header::{Header, MessageKind, Version};
 use crate::places::Parts;
-use crate::writing::cut_back;
-use cdr_core::{Order, Writer};
+use cdr_core::Order;
 use std::alloc::AllocError;
 
 /// A CancelRequest (GIOP 9.4.4): the reply to a request is no longer wanted.
@@ -38,16 +36,9 @@ pub(crate) fn find_cancel(
     Ok(())
 }
 
-/// Appends a CancelRequest. Where an allocation fails `out` may keep a part of it at its end.
-fn append_cancel(
-    version: Version,
-    order: Order,
-    request_id: u32,
-    out: &mut Vec<u8>,
-) -> Result<(), AllocError>
-    ensures { MatchResult result
-        (λ _. out.new.items ≡ out.old.items ++ message_octets version kind.CancelRequest order (behind_header version kind.CancelRequest order (cancel_fields request_id) no_values))
-        (λ _. Keeps out.old.items out.new.items) }
+/// A CancelRequest (GIOP 9.4.4).
+pub fn cancel_octets(version: Version, order: Order, request_id: u32) -> [u8; 16]
+    ensures { result ≡ message_octets version kind.CancelRequest order (behind_header version kind.CancelRequest order (cancel_fields request_id) no_values) }
 {
     let header = Header {
         version,
@@ -56,10 +47,10 @@ fn append_cancel(
         kind: MessageKind::CancelRequest,
         size: 4,
     };
-    out.reserve(Header::LEN + 4)?;
-    out.extend_from_slice(&header.octets())?;
-    let writer = Writer::new(order, Header::LEN as u64, out);
-    writer.ulong(request_id, out)
+    let mut octets = [0; Header::LEN + 4];
+    octets[..Header::LEN].copy_from_slice(&header.octets());
+    order.put_ulong(request_id, &mut octets[Header::LEN..]);
+    octets
 }
 
 /// Appends a CancelRequest (GIOP 9.4.4). Where an allocation fails `out` is as it was.
@@ -73,7 +64,5 @@ pub fn write_cancel(
         (λ _. out.new.items ≡ out.old.items ++ message_octets version kind.CancelRequest order (behind_header version kind.CancelRequest order (cancel_fields request_id) no_values))
         (λ _. out.new.items ≡ out.old.items) }
 {
-    let start = out.len();
-    let result = append_cancel(version, order, request_id, out);
-    cut_back(result, start, out)
+    out.extend_from_slice(&cancel_octets(version, order, request_id))
 }

@@ -10,9 +10,9 @@ use crate::header::{Header, MessageKind, Version};
 use cdr_core::Order;
 use std::alloc::AllocError;
 
-/// Appends a message of 1.0 that is its header alone, in big-endian order.
-fn put_bare(kind: MessageKind, out: &mut Vec<u8>) -> Result<(), AllocError>
-    ensures { MatchResult result (λ _. out.new.items ≡ out.old.items ++ message_octets V10 kind Big []) (λ _. out.new.items ≡ out.old.items) }
+/// A message of 1.0 that is its header alone, in big-endian order.
+fn bare_octets(kind: MessageKind) -> [u8; 12]
+    ensures { result ≡ message_octets V10 kind Big [] }
 {
     let header = Header {
         version: Version::V10,
@@ -21,7 +21,21 @@ fn put_bare(kind: MessageKind, out: &mut Vec<u8>) -> Result<(), AllocError>
         kind,
         size: 0,
     };
-    out.extend_from_slice(&header.octets())
+    header.octets()
+}
+
+/// CloseConnection (GIOP 9.4.7), as 1.0 has it, in big-endian order.
+pub fn close_octets() -> [u8; 12]
+    ensures { result ≡ message_octets V10 kind.CloseConnection Big [] }
+{
+    bare_octets(MessageKind::CloseConnection)
+}
+
+/// MessageError (GIOP 9.4.8), as 1.0 has it, in big-endian order.
+pub fn error_octets() -> [u8; 12]
+    ensures { result ≡ message_octets V10 kind.MessageError Big [] }
+{
+    bare_octets(MessageKind::MessageError)
 }
 
 /// Appends CloseConnection (GIOP 9.4.7), as 1.0 has it, in big-endian order. Where an
@@ -29,7 +43,7 @@ fn put_bare(kind: MessageKind, out: &mut Vec<u8>) -> Result<(), AllocError>
 pub fn write_close(out: &mut Vec<u8>) -> Result<(), AllocError>
     ensures { MatchResult result (λ _. out.new.items ≡ out.old.items ++ message_octets V10 kind.CloseConnection Big []) (λ _. out.new.items ≡ out.old.items) }
 {
-    put_bare(MessageKind::CloseConnection, out)
+    out.extend_from_slice(&close_octets())
 }
 
 /// Appends MessageError (GIOP 9.4.8), as 1.0 has it, in big-endian order. Where an
@@ -37,5 +51,5 @@ pub fn write_close(out: &mut Vec<u8>) -> Result<(), AllocError>
 pub fn write_error(out: &mut Vec<u8>) -> Result<(), AllocError>
     ensures { MatchResult result (λ _. out.new.items ≡ out.old.items ++ message_octets V10 kind.MessageError Big []) (λ _. out.new.items ≡ out.old.items) }
 {
-    put_bare(MessageKind::MessageError, out)
+    out.extend_from_slice(&error_octets())
 }

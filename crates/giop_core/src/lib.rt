@@ -34,12 +34,13 @@ pub use reading::{
 };
 
 // each kind of message, and its writer
-pub use cancel::{CancelRequest, write_cancel};
-pub use control::{write_close, write_error};
+pub use cancel::{CancelRequest, cancel_octets, write_cancel};
+pub use control::{close_octets, error_octets, write_close, write_error};
 pub use exception::write_exception;
 pub use fragment::Fragment;
 pub use locate::{
-    LocateReply, LocateRequest, LocateStatus, write_locate_reply, write_locate_request,
+    LocateReply, LocateRequest, LocateStatus, locate_reply_octets, write_locate_reply,
+    write_locate_request,
 };
 pub use raw_reply::write_raw_reply;
 pub use reply::{Reply, ReplyStatus, write_reply};

@@ -9,13 +9,13 @@ ghost use Rattle.giop_core.specs.Places.{FindsParts};
 ghost use Rattle.giop_core.specs.Private.{Adds, PutsFields};
 ghost use Rattle.giop_core.specs.Statuses.{locate_status_number, locate_status_of, locate_statuses};
 ghost use Rattle.giop_core.specs.Texts.{locate_status_text};
-ghost use Rattle.giop_core.specs.Written.{behind_header, locate_reply_fields, locate_request_fields, target_in, CanAddress, Wrote};
+ghost use Rattle.giop_core.specs.Written.{behind_header, locate_reply_fields, locate_request_fields, message_octets, target_in, CanAddress, Wrote};
 ghost use Rattle.giop_core.specs.declared.header.MessageKind.TheVariants as kind;
 ghost use Rattle.giop_core.specs.declared.header.Version.TheVariants.{V10, V12};
 
 use crate::error::{MessageFault, WriteError};
 use crate::finder::Finder;
-use crate::header::{MessageKind, Version};
+use crate::header::{Header, MessageKind, Version};
 use crate::message::Body;
 use crate::places::{Parts, TargetPlace};
 use crate::target_address::{Target, check_target, put_target_in};
@@ -248,6 +248,24 @@ pub(crate) fn find_locate_reply_12(
     let status = finder.ordinal(STATUSES_12)?;
     *parts = Parts::LocateReply(request_id, status, finder.body());
     Ok(())
+}
+
+/// A LocateReply without a body (GIOP 9.4.6).
+pub fn locate_reply_octets(version: Version, order: Order, request_id: u32, status: u32) -> [u8; 20]
+    ensures { result ≡ message_octets version kind.LocateReply order (behind_header version kind.LocateReply order (locate_reply_fields request_id status) no_values) }
+{
+    let header = Header {
+        version,
+        order,
+        more: false,
+        kind: MessageKind::LocateReply,
+        size: 8,
+    };
+    let mut octets = [0; Header::LEN + 8];
+    octets[..Header::LEN].copy_from_slice(&header.octets());
+    order.put_ulong(request_id, &mut octets[Header::LEN..]);
+    order.put_ulong(status, &mut octets[Header::LEN + 4..]);
+    octets
 }
 
 /// Appends the fields of a LocateReply.

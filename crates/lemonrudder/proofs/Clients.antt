@@ -1,11 +1,12 @@
 -- A call on a client, in the words of the slot that holds it, and what it stands for afterwards.
-use Rattle.std.proofs.Common.{◌≡◌, ◌∙◌, ℕ, ℤ, ◌≤◌, List, [], ◌∷◌, ◌++◌, length, map, take, drop, Option, Some, None, Result, Ok, Vec, Global, refl, ap, sym, subst, append-nil}
+use Rattle.std.proofs.Common.{◌≡◌, ◌∙◌, ℕ, ℤ, ◌≤◌, true, is_some, List, [], ◌∷◌, ◌++◌, length, map, take, drop, Option, Some, None, Result, Ok, Vec, Global, refl, ap, sym, subst, append-nil}
+use Rattle.giop_link.specs.ClientLinking.{ClientLinked}
 use Rattle.ft_client.specs.declared.client.FtClient.{FtClient}
-use Rattle.ft_client.specs.Clients.{Client, Ended, Happening, Pending, after, parted, says, unsent}
+use Rattle.ft_client.specs.Clients.{Client, Ended, Happening, Linked, Pending, after, parted, says, unsent}
 use Rattle.ft_client.specs.Directions.{stream}
 use Rattle.ft_client.specs.Ends.{numbered}
 use Rattle.ft_client.specs.Messages.{octets_said}
-use Rattle.ft_client.specs.Standing.{FtStands, down}
+use Rattle.ft_client.specs.Standing.{FtStands, LinkFor, down}
 use Rattle.lemonrudder.specs.declared.calling.Calling.{Calling}
 use Rattle.lemonrudder.specs.declared.calling.CompletionHead.{CompletionHead}
 use Rattle.lemonrudder.specs.declared.object.Object.{Object}
@@ -59,6 +60,13 @@ stands_unwritten s c octets x m st client is = record {
 -- nothing is written
 pub stands_silent : (s : Calling) (c : FtClient) (x : Standing) (m : Client) → Stands s x → FtStands c m → Stands (record s { client = c }) (record x { client = m; due = x.due ++ [] })
 stands_silent s c x m st client = record { client = client; placed = st.placed; due = st.due ∙ sym (append-nil x.due); last = st.last }
+
+-- a link of the code is one of the client
+pub linked : (link : Option ClientLinked) (m : Client) (l : Option Linked) → LinkFor link m l → is_some link ≡ true → is_some l ≡ true
+linked None m None st is = is
+linked None m (Some l) st is = absurd st
+linked (Some k) m None st is = absurd st
+linked (Some k) m (Some l) st is = refl
 
 -- a client that has left its link leaves it again
 unsent-twice : (ps : List Pending) → unsent (unsent ps) ≡ unsent ps

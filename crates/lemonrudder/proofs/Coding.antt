@@ -1,5 +1,5 @@
 -- Codes of types, as they are read one by one.
-use Rattle.std.proofs.Common.{◌≡◌, ◌∙◌, ◌⊎◌, inl, inr, ℕ, suc, ◌+◌, ◌<◌, ◌≤◌, List, [], ◌∷◌, ◌++◌, length, take, drop, Bool, true, false, IsTrue, ◌↔◌, is_some, Option, Some, None, Result, Err, Box, Vec, Global, refl, ap, sym, subst, rules, arith, append_assoc, append-nil, length-drop}
+use Rattle.std.proofs.Common.{◌≡◌, ◌≢◌, ◌∙◌, ◌⊎◌, inl, inr, ℕ, suc, ◌+◌, ◌<◌, ◌≤◌, List, [], ◌∷◌, ◌++◌, length, take, drop, Bool, true, false, IsTrue, ◌↔◌, is_some, Option, Some, None, Result, Err, Box, Vec, Global, refl, ap, sym, subst, rules, arith, append_assoc, append-nil, length-drop}
 use Rattle.std.proofs.lemmas.Bool.{false≢true}
 use Rattle.std.proofs.lemmas.List.{take-append-drop}
 use Rattle.cdr_core.specs.Fitting.{AreValid}
@@ -71,6 +71,13 @@ codes_enum ts n codes front is all =
     let made : IsCode (form_of (ty.Enum n)) (13 ∷ n ∷ []) = subst (λ f. IsCode f (13 ∷ n ∷ [])) (sym (form_of-Enum n)) refl in
     subst (λ xs. AreCodes (forms_of (ts ++ ty.Enum n ∷ [])) xs) (sym (ap (λ xs. xs ++ n ∷ []) is ∙ append_assoc front (13 ∷ []) (n ∷ []))) (codes_push ts (ty.Enum n) front (13 ∷ n ∷ []) all made)
 
+-- .. of types of which one more was read
+more_codes : (ts : Forms) (f : Form) (codes one : List ℕ) → AreCodes ts codes → IsCode f one → (us : Forms) × AreCodes us (codes ++ one)
+more_codes form.no_forms f codes one all is = (form.form f form.no_forms, (one, [], ap (λ xs. xs ++ one) all ∙ sym (append-nil one), is, refl))
+more_codes (form.form t ts) f codes one all is =
+    let r = more_codes ts f all.1 one all.4 is in
+    (form.form t r.0, (all.0, all.1 ++ one, ap (λ xs. xs ++ one) all.2 ∙ append_assoc all.0 all.1 one, all.3, r.1))
+
 -- where no code waits for a number
 read_none : (w : Option Counted) (types : Forms) (codes : List ℕ) → w ≡ None → HasRead w types codes → AreCodes types codes
 read_none w types codes none read = subst (λ x. HasRead x types codes) none read
@@ -119,6 +126,34 @@ pub takes_no_element : (w : Option Counted) (ts : List Ty) → length ts ≡ 0 �
 takes_no_element w [] empty none codes read = λ rest us also. refused_sequence us codes rest (read_none w form.no_forms codes none read) also
 takes_no_element w (t ∷ ts) empty none codes read = absurd (omega arith)
 
+-- types that take memory are those that were read, and one more
+
+pub lacks_basic : (w : Option Counted) (ts : List Ty) (t : Ty) (code : ℕ) → IsCode (form_of t) (code ∷ []) → w ≡ None → (codes : List ℕ) → HasRead w (forms_of ts) codes → (us : Forms) × AreCodes us (codes ++ code ∷ [])
+lacks_basic w ts t code one none codes read = more_codes (forms_of ts) (form_of t) codes (code ∷ []) (read_none w (forms_of ts) codes none read) one
+
+pub lacks_names : (ts : List Ty) (counted : Counted) (n : ℕ) → counted ≡ Enum → (codes : List ℕ) → HasRead (Some counted) (forms_of ts) codes → (us : Forms) × AreCodes us (codes ++ n ∷ [])
+lacks_names ts counted n kind codes read =
+    let r = subst (λ k. HasRead (Some k) (forms_of ts) codes) kind read in
+    let m = more_codes (forms_of ts) (form.enumeration n) r.0 (13 ∷ n ∷ []) r.2 refl in
+    (m.0, subst (AreCodes m.0) (sym (append_assoc r.0 (13 ∷ []) (n ∷ [])) ∙ ap (λ xs. xs ++ n ∷ []) (sym r.1)) m.1)
+
+pub lacks_members : (ts : List Ty) (at n m : ℕ) → m ≡ n → at + m ≡ length ts → (codes : List ℕ) → HasRead (Some Struct) (forms_of ts) codes → (us : Forms) × AreCodes us (codes ++ n ∷ [])
+lacks_members ts at n m number place codes read =
+    let r = codes_split (take at ts) (drop at ts) read.0 (subst (λ xs. AreCodes (forms_of xs) read.0) (sym (take-append-drop at ts)) read.2) in
+    let many : n ≡ count (forms_of (drop at ts)) = omega (arith, length-drop at ts, count_forms (drop at ts)) in
+    let made : IsCode (form.structure (forms_of (drop at ts))) (r.1 ++ 14 ∷ n ∷ []) = (r.1, ap (λ k. r.1 ++ 14 ∷ k ∷ []) many, r.4) in
+    let more = more_codes (forms_of (take at ts)) (form.structure (forms_of (drop at ts))) r.0 (r.1 ++ 14 ∷ n ∷ []) r.3 made in
+    let same : r.0 ++ (r.1 ++ 14 ∷ n ∷ []) ≡ codes ++ n ∷ [] =
+    sym (append_assoc r.0 r.1 (14 ∷ n ∷ [])) ∙ ap (λ xs. xs ++ 14 ∷ n ∷ []) (sym r.2) ∙ sym (append_assoc read.0 (14 ∷ []) (n ∷ [])) ∙ ap (λ xs. xs ++ n ∷ []) (sym read.1) in
+    (more.0, subst (AreCodes more.0) same more.1)
+
+pub lacks_sequence : (w : Option Counted) (old ts : List Ty) (t : Ty) → old ≡ ts ++ t ∷ [] → w ≡ None → (codes : List ℕ) → HasRead w (forms_of old) codes → (us : Forms) × AreCodes us (codes ++ 12 ∷ [])
+lacks_sequence w old ts t was none codes read =
+    let r = codes_split ts (t ∷ []) codes (subst (λ xs. AreCodes (forms_of xs) codes) was (read_none w (forms_of old) codes none read)) in
+    let made : IsCode (form.sequence most (form_of t)) (r.1 ++ 12 ∷ []) = (refl, (r.1, refl, codes_one t r.1 r.4)) in
+    let more = more_codes (forms_of ts) (form.sequence most (form_of t)) r.0 (r.1 ++ 12 ∷ []) r.3 made in
+    (more.0, subst (AreCodes more.0) (sym (append_assoc r.0 r.1 (12 ∷ [])) ∙ ap (λ xs. xs ++ 12 ∷ []) (sym r.2)) more.1)
+
 -- all codes were read
 pub read_no_number : (w : Option Counted) (k : Counted) (ts : List Ty) (codes : List ℕ) → w ≡ Some k → HasRead w (forms_of ts) codes → SpellNone codes
 read_no_number w k ts codes is read = λ us also valid. waits_for k ts codes (subst (λ x. HasRead x (forms_of ts) codes) is read) us also where
@@ -138,10 +173,15 @@ pub none_waits : (w : Option Counted) (b v : Bool) (ts xs : List Ty) (codes : Li
 none_waits None b v ts xs codes is none valid same bad read = read_not_valid ts codes read (λ good. false≢true (sym bad ∙ valid.1 (subst (λ ys. AreValid (forms_of ys)) (sym same) good)))
 none_waits (Some k) b v ts xs codes is none valid same bad read = absurd (false≢true (sym none ∙ is))
 
+-- codes of which one was read are some
+pub some_last : (xs : List ℕ) (x : ℕ) → xs ++ x ∷ [] ≢ []
+some_last [] x e = absurd cc
+some_last (y ∷ ys) x e = absurd cc
+
 -- a code that is refused is one of no types
-pub refused_types : (codes front rest : List ℕ) (s : Spelling) (e : Refusal) (r : Result (Vec Ty Global) Refusal) → codes ≡ front ++ rest → Reads front s (Err e) → r ≡ Err e → AreTypes codes r
-refused_types codes front rest s e r is reads gave = subst (λ x. AreTypes codes x) (sym gave) (by_refusal e reads) where
+pub refused_types : (codes front rest : List ℕ) (s : Spelling) (e : Refusal) (r : Result (Vec Ty Global) Refusal) → codes ≡ front ++ rest → front ≢ [] → Reads front s (Err e) → r ≡ Err e → AreTypes codes r
+refused_types codes front rest s e r is some reads gave = subst (λ x. AreTypes codes x) (sym gave) (by_refusal e reads) where
   by_refusal : (e : Refusal) → Reads front s (Err e) → AreTypes codes (Err e)
   by_refusal refusal.Types reads = λ us also valid. reads rest us (subst (λ xs. AreCodes us xs) is also)
-  by_refusal refusal.Memory reads = tt
+  by_refusal refusal.Memory reads = (reads.0, front, rest, is, some, reads.1)
   by_refusal e reads = absurd reads

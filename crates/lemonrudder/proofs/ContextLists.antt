@@ -1,5 +1,5 @@
 -- Service contexts that are read from octets of the caller.
-use Rattle.std.proofs.Common.{◌≡◌, ◌∙◌, ℕ, true, false, ◌==◌, List, [], ◌∷◌, ◌++◌, length, map, take, Ok, Err, ◌⊎◌, inl, inr, refl, ap, sym, subst, append-nil, arith, length-append}
+use Rattle.std.proofs.Common.{◌≡◌, ◌≢◌, ◌∙◌, ℕ, true, false, ◌==◌, List, [], ◌∷◌, ◌++◌, length, map, take, Ok, Err, ◌⊎◌, inl, inr, refl, ap, sym, subst, append-nil, arith, length-append}
 use Rattle.std.proofs.lemmas.Bool.{eqb-true}
 use Rattle.std.specs.Borrow.{Bor}
 use Rattle.cdr_core.specs.declared.fault.CdrError.{CdrError}
@@ -54,9 +54,9 @@ at_fault order [] f some e = absurd (let k : true ≡ false = some in cc)
 at_fault order (o ∷ os) f some e = inl (f, refl, tells contexts order 0 (o ∷ os) f e)
 
 pub at_error : (order : Order) (octets : List ℕ) (n q : ℕ) (more : List ℕ) (e : CdrError) → length octets == 0 ≡ false → length_at order 0 most 0 octets ≡ Ok (n, q, more)
-    → Fails e (each_at (value_at tagged order) n q more) → AreNoContexts order octets (refusal_of_reading e) ⊎ (refusal_of_reading e ≡ refusal.Memory)
+    → Fails e (each_at (value_at tagged order) n q more) → AreNoContexts order octets (refusal_of_reading e) ⊎ ((refusal_of_reading e ≡ refusal.Memory) × (octets ≢ []))
 at_error order octets n q more (reading.Bad f) some count each = inl (at_fault order octets f some (each_fails order octets n q more f count each))
-at_error order octets n q more reading.Memory some count each = inr refl
+at_error order octets n q more reading.Memory some count each = inr (refl, λ none. let k : true ≡ false = ap (λ (xs : List ℕ). length xs == 0) (sym none) ∙ some in absurd cc)
 
 -- a front of octets
 take_front : (xs ys : List ℕ) → take (length xs) (xs ++ ys) ≡ xs

@@ -1,5 +1,5 @@
 -- What comes of an outcome: by what waits, by the octets that are read, and by the numbers that name its parts.
-use Rattle.std.proofs.Common.{◌≡◌, ◌==◌, if◌then◌else◌, Bool, true, false, ℕ, List, Option, Some, None, Result, Ok, Err, Vec, Global, inl, inr, ap, refl, subst, sym}
+use Rattle.std.proofs.Common.{◌≡◌, ◌==◌, ◌∙◌, ◌↔◌, if◌then◌else◌, Bool, true, false, ℕ, List, [], ◌∷◌, length, Option, Some, None, IsSome, IsTrue, Result, Ok, Err, Bor, Vec, Global, map, inl, inr, ap, refl, subst, sym}
 use Rattle.std.specs.Result.{IfOk}
 use Rattle.cdr_core.specs.declared.order.Order.{Order}
 use Rattle.cdr_core.specs.declared.values.Val.{Val}
@@ -7,17 +7,29 @@ use Rattle.cdr_core.specs.Form.{Forms}
 use Rattle.cdr_core.specs.Spelling.{SpellsMembers}
 use Rattle.cdr_core.specs.Value.{Values}
 use Rattle.cdr_core.specs.View.{values_of}
-use Rattle.ft_log.specs.Performed.{Performed}
-use Rattle.ft_orb.specs.Engines.{Awaited, IsOpen}
+use Rattle.cdr_core.specs.Writing.{AreWritable}
+use Rattle.giop_core.specs.Written.{exception_body}
+use Rattle.ft_log.specs.declared.outcome.RawStatus.TheVariants.{UserException}
+use Rattle.ft_log.specs.Performed.{Performed, raw}
+use Rattle.ft_orb.specs.Engines.{Awaited, CanAnswer, IsOpen, waits_in}
 use Rattle.lemonrudder.specs.declared.refusal.Refusal.{Refusal}
 use Rattle.lemonrudder.specs.declared.refusal.Refusal.TheVariants as refusal
 use Rattle.lemonrudder.specs.declared.serving.Serving.{Serving}
 use Rattle.lemonrudder.specs.declared.serving.questions.Found.{Found}
-use Rattle.lemonrudder.specs.Naming.{or_range}
-use Rattle.lemonrudder.specs.Outcomes.{AreRead, ByName, HandsIn, HandsInValues, outcome_read}
+use Rattle.lemonrudder.specs.declared.serving.questions.Found.TheVariants as found
+use Rattle.std.proofs.Math.Bool.{Bool-set}
+use Rattle.lemonrudder.specs.Connected.{is_asked_there}
+use Rattle.ft_objects.specs.Families.{families_offer}
+use Rattle.ft_orb.specs.Parking.{CanSettle, parked_at, parked_in}
+use Rattle.lemonrudder.specs.Beforehand.{ByNamed, OnReplyContexts, Says, TellsException, TellsIfCan}
+use Rattle.lemonrudder.specs.Naming.{or_range, order_named}
+use Rattle.lemonrudder.specs.Outcomes.{Answers, AreRead, AreValuesOf, ByName, CanBe, HandsIn, IsBody, Raises, exception_octets, outcome_read}
+use Rattle.giop_core.specs.Items.{item_at}
+use Rattle.lemonrudder.specs.declared.serving.replying.Said.{Said}
+use Rattle.lemonrudder.specs.Replying.{AreLent, AreSaid, Contexts, IsSaid}
 use Rattle.lemonrudder.specs.Serves.{ByFound, ByWaiting}
-use Rattle.lemonrudder.specs.Spelled.{AreThose}
-use Rattle.lemonrudder.specs.Tickets.{ticket_of, waiting_by}
+use Rattle.lemonrudder.specs.Spelled.{AreThose, AreValues}
+use Rattle.lemonrudder.specs.Tickets.{named_by, ticket_of, waiting_by}
 
 -- a number names nothing
 pub unnamed : {A : Type 0} (x : Option A) (e : Refusal) (s : Serving) (r : Result ℕ Refusal) (Does : A → Type 0) → or_range x ≡ Err e → r ≡ Err e → ByName x s s r Does
@@ -58,23 +70,6 @@ pub open_by : (ticket : ℕ) (o : Option Awaited) (w : Awaited) → waiting_by t
 open_by ticket None w is = absurd cc
 open_by ticket (Some x) w is = let same = waits_by (ticket_of x.number == ticket) x w is in ap (λ (v : Awaited). v.number) same
 
--- octets were not read
-pub read-err : (f : Found) (types : Option Forms) (order : Order) (octets : List ℕ) (outcome : Values → Performed) (s : Serving) (e : Refusal) → AreRead types order octets (Err e) → HandsInValues f types order octets outcome s s (Err e)
-read-err f None order octets outcome s e is = (ap Err is, refl)
-read-err f (Some types) order octets outcome s e (inl short) = let said : ◌≡◌ {A = Result ℕ Refusal} (Err e) (Err refusal.Memory) = ap Err short in (λ vs spelled. inl (said, refl), λ none. inl (said, refl))
-read-err f (Some types) order octets outcome s e (inr (is, none)) = let said : ◌≡◌ {A = Result ℕ Refusal} (Err e) (Err refusal.Outcome) = ap Err is in (λ vs spelled. absurd (none vs spelled), λ _. inr (said, refl))
-
--- octets were read, and their outcome was handed in
-pub read-ok : (f : Found) (types : Option Forms) (order : Order) (octets : List ℕ) (outcome : Values → Performed) (s t : Serving) (r : Result ℕ Refusal) (v : Vec Val Global) → AreRead types order octets (Ok v) → HandsIn f 0 (outcome (values_of v.items)) s t r
-    → HandsInValues f types order octets outcome s t r
-read-ok f None order octets outcome s t r v is handed = absurd is
-read-ok f (Some types) order octets outcome s t r v is handed = (λ vs spelled. inr (subst (λ us. HandsIn f 0 (outcome us) s t r) (is.1 vs spelled) handed), λ none. absurd (none (values_of v.items) is.0))
-
--- octets were read, and then memory was short
-pub read-short : (f : Found) (types : Option Forms) (order : Order) (octets : List ℕ) (outcome : Values → Performed) (s : Serving) (v : Vec Val Global) → AreRead types order octets (Ok v) → HandsInValues f types order octets outcome s s (Err refusal.Memory)
-read-short f None order octets outcome s v is = absurd is
-read-short f (Some types) order octets outcome s v is = (λ vs spelled. inl (refl, refl), λ none. inl (refl, refl))
-
 -- what was read and has no other fault
 pub read-is : (types : Forms) (order : Order) (octets : List ℕ) (r : Result (Vec Val Global) Refusal) → IfOk r (λ v. SpellsMembers types order (values_of v.items) 0 octets) → ((vs : Values) → SpellsMembers types order vs 0 octets → AreThose vs r)
     → AreRead (Some types) order octets (outcome_read r)
@@ -87,3 +82,93 @@ read-none types order octets none = subst (λ ts. AreRead ts order octets (Err r
 
 pub read-some : (types : Option Forms) (order : Order) (octets : List ℕ) (ts : Forms) (r : Result (Vec Val Global) Refusal) → types ≡ Some ts → AreRead (Some ts) order octets r → AreRead types order octets r
 read-some types order octets ts r some read = subst (λ x. AreRead x order octets r) (sym some) read
+
+-- members were not read, so there is no body of an exception of them
+pub body-unread : (id : List ℕ) (types : Option Forms) (order : Order) (octets : List ℕ) (e : Refusal) → AreRead types order octets (Err e) → IsBody id types order octets (Err e)
+body-unread id None order octets e is = is
+body-unread id (Some types) order octets e (inl short) = inl short
+body-unread id (Some types) order octets e (inr (is, none)) = inr (is, λ vs are. none vs are.0)
+
+-- .. or they can't be written
+pub body-unwritable : (id : List ℕ) (types : Option Forms) (order : Order) (octets : List ℕ) (v : Vec Val Global) → AreRead types order octets (Ok v) → ¬ (AreWritable (exception_body id (values_of v.items))) → IsBody id types order octets (Err refusal.Outcome)
+body-unwritable id None order octets v is cannot = absurd is
+body-unwritable id (Some types) order octets v is cannot = inr (refl, λ vs are. cannot (subst (λ us. AreWritable (exception_body id us)) (sym (is.1 vs are.0)) are.1))
+
+-- .. or memory is short for it
+pub body-short : (id : List ℕ) (types : Option Forms) (order : Order) (octets : List ℕ) (v : Vec Val Global) → AreRead types order octets (Ok v) → IsBody id types order octets (Err refusal.Memory)
+body-short id None order octets v is = absurd is
+body-short id (Some types) order octets v is = inl refl
+
+pub body-is : (id : List ℕ) (types : Option Forms) (order : Order) (octets : List ℕ) (v : Vec Val Global) (body : Vec ℕ Global) → AreRead types order octets (Ok v) → AreWritable (exception_body id (values_of v.items)) → body.items ≡ exception_octets order id (values_of v.items)
+    → IsBody id types order octets (Ok body)
+body-is id None order octets v body is can written = absurd is
+body-is id (Some types) order octets v body is can written = (values_of v.items, (is.0, can), (λ us are. is.1 us are.0), written)
+
+-- there is no body of an exception
+pub raises-none : (ticket : ℕ) (f : Found) (id : List ℕ) (types : Option Forms) (order : Order) (octets : List ℕ) (s : Serving) (e : Refusal) → IsBody id types order octets (Err e) → Raises ticket f id types order octets s s (Err e)
+raises-none ticket f id None order octets s e is = (ap Err is, refl)
+raises-none ticket f id (Some types) order octets s e (inl short) = let said : ◌≡◌ {A = Result ℕ Refusal} (Err e) (Err refusal.Memory) = ap Err short in (λ vs are. inl (said, refl), λ none. inl (said, refl))
+raises-none ticket f id (Some types) order octets s e (inr (is, none)) = let said : ◌≡◌ {A = Result ℕ Refusal} (Err e) (Err refusal.Outcome) = ap Err is in (λ vs are. absurd (none vs are), λ _. inr (said, refl))
+
+-- there is one, which was handed in
+pub raises-it : (ticket : ℕ) (f : Found) (id : List ℕ) (types : Option Forms) (order : Order) (octets : List ℕ) (s t : Serving) (r : Result ℕ Refusal) (body : Vec ℕ Global) → IsBody id types order octets (Ok body) → HandsIn ticket f 0 (raw UserException order body.items) s t r
+    → Raises ticket f id types order octets s t r
+raises-it ticket f id None order octets s t r body is handed = absurd is
+raises-it ticket f id (Some types) order octets s t r body is handed =
+    (λ vs are. inr (subst (λ os. HandsIn ticket f 0 (raw UserException order os) s t r) (is.3 ∙ ap (exception_octets order id) (is.2 vs are)) handed), λ none. absurd (none is.0 is.1))
+
+-- the types of results, as they are lent
+pub results-are : (o : Option Forms) (ts : Forms) (order : Order) (octets : List ℕ) (b : Bool) → o ≡ Some ts → IsTrue b ↔ AreValues ts order octets → IsTrue b ↔ AreValuesOf o order octets
+results-are o ts order octets b some are = subst (λ x. IsTrue b ↔ AreValuesOf x order octets) (sym some) are
+
+pub results-none : (o : Option Forms) (order : Order) (octets : List ℕ) → o ≡ None → ¬ (AreValuesOf o order octets)
+results-none o order octets none are = subst (λ x. AreValuesOf x order octets) none are
+
+-- what was said is lent, or it is there and memory is short for it
+pub lent-said : (said other : Option Said) (r : Result (Vec (ℕ × Bor (List ℕ)) Global) Refusal) (v : Vec (ℕ × Bor (List ℕ)) Global) → said ≡ other → r ≡ Ok v → AreLent said r → AreSaid other (map item_at v.items)
+lent-said said other r v is ok lent = subst (λ (o : Option Said). AreSaid o (map item_at v.items)) is (subst (λ x. AreLent said x) ok lent)
+
+short-err : (said : Option Said) (e : Refusal) → AreLent said (Err e) → IsSome said
+short-err None e lent = absurd lent
+short-err (Some x) e lent = refl
+
+pub short-said : (said : Option Said) (r : Result (Vec (ℕ × Bor (List ℕ)) Global) Refusal) → AreLent said r → ((v : Vec (ℕ × Bor (List ℕ)) Global) → r ≡ Ok v → ⊥) → IsSome said
+short-said said (Ok v) lent never = absurd (never v refl)
+short-said said (Err e) lent never = short-err said e lent
+
+-- there is no body of an exception to be told
+pub tells-none : (f : Found) (id : List ℕ) (types : Option Forms) (order : Order) (octets room : List ℕ) (s : Serving) (e : Refusal) → IsBody id types order octets (Err e) → TellsException f id types order octets room room s (Err e)
+tells-none f id None order octets room s e is = (ap Err is, refl)
+tells-none f id (Some types) order octets room s e (inl short) = inl (ap Err short, refl)
+tells-none f id (Some types) order octets room s e (inr (is, none)) = inr ((λ vs are. absurd (none vs are)), λ _. (ap Err is, refl))
+
+-- .. or there is one
+pub tells-it : (f : Found) (id : List ℕ) (types : Option Forms) (order : Order) (octets room new : List ℕ) (s : Serving) (r : Result ℕ Refusal) (body : Vec ℕ Global) → IsBody id types order octets (Ok body) → TellsIfCan f order body.items room new s r
+    → TellsException f id types order octets room new s r
+tells-it f id None order octets room new s r body is told = absurd is
+tells-it f id (Some types) order octets room new s r body is told =
+    inr ((λ vs are. subst (λ os. TellsIfCan f order os room new s r) (is.3 ∙ ap (exception_octets order id) (is.2 vs are)) told), λ none. absurd (none is.0 is.1))
+
+-- octets are kept for a ticket, of which there are some
+pub said-is : (ticket : ℕ) (order : Order) (octets : List ℕ) (x : Said) (b : Bool) → b ≡ (length octets == 0) → b ≡ false → x.ticket ≡ ticket → x.order ≡ order → x.octets.items ≡ octets → IsSaid ticket order octets (Some x)
+said-is ticket order [] x b counts some named ordered kept = absurd cc
+said-is ticket order (octet ∷ octets) x b counts some named ordered kept = (x, refl, named, ordered, kept)
+
+-- service contexts are said
+pub says-it : (ticket order : ℕ) (octets : List ℕ) (s t : Serving) (o : Order) (f : Found) (w : Awaited) → or_range (order_named order) ≡ Ok o → named_by ticket (waits_in s.engine) (parked_in s.engine) ≡ Ok (f, w) → Says ticket o octets s t (Ok 0) → OnReplyContexts ticket order octets s t (Ok 0)
+says-it ticket order octets s t o f w is found says =
+    named (order_named order) o s t (Ok 0) (λ x. ByNamed ticket s t (Ok 0) (λ g v. Says ticket x octets s t (Ok 0))) is
+    (by_found (named_by ticket (waits_in s.engine) (parked_in s.engine)) f w s t (Ok 0) (λ g v. Says ticket o octets s t (Ok 0)) found says)
+
+-- What is asked is there, however that is shown.
+
+asked-same : (s : Serving) (a : IsTrue (is_asked_there s.connections s.engine)) → record s { asked = a } ≡ s
+asked-same s a = ap (λ (q : IsTrue (is_asked_there s.connections s.engine)). record s { asked = q }) (Bool-set (is_asked_there s.connections s.engine) true a s.asked)
+
+pub answers-asked : (f : Found) (n : ℕ) (p : Performed) (said : Contexts) (s t : Serving) (r : Result ℕ Refusal) (a : IsTrue (is_asked_there s.connections s.engine)) → Answers f n p said (record s { asked = a }) t r → Answers f n p said s t r
+answers-asked f n p said s t r a answers = subst (λ (m : Serving). Answers f n p said m t r) (asked-same s a) answers
+
+-- what may be an outcome is so by the engine alone
+pub can-same : (f : Found) (p : Performed) (s m : Serving) → m.engine ≡ s.engine → CanBe f p s → CanBe f p m
+can-same (found.Waits n c) p s m is can = subst (λ e. CanAnswer (families_offer e.offering.catalogue) (waits_in e) n p) (sym is) can
+can-same (found.Parked n) p s m is can = subst (λ e. CanSettle (families_offer e.offering.catalogue) (parked_at e n) p) (sym is) can

@@ -1,9 +1,12 @@
 -- Calls that a client makes, takes up again or redirects, in the words of what it stands for.
-use Rattle.std.proofs.Common.{◌≡◌, ◌∙◌, ◌↔◌, inr, ℕ, suc, ℤ, Bool, true, false, IsTrue, List, ◌++◌, Some, Result, Ok, Err, Vec, Global, refl, subst, sym}
+use Rattle.std.proofs.Common.{◌≡◌, ◌∙◌, ◌↔◌, inl, inr, ℕ, suc, ℤ, Bool, true, false, IsTrue, List, ◌++◌, Some, Result, Ok, Err, Vec, Global, refl, subst, sym}
 use Rattle.std.proofs.lemmas.Bool.{false≢true}
+use Rattle.cdr_core.specs.declared.fault.Kind.{Kind}
+use Rattle.cdr_core.specs.declared.fault.Kind.TheVariants as fault
 use Rattle.cdr_core.specs.declared.order.Order.{Order}
 use Rattle.cdr_core.specs.declared.types.Ty.{Ty}
 use Rattle.cdr_core.specs.declared.values.Val.{Val}
+use Rattle.cdr_core.specs.Form.{Forms}
 use Rattle.cdr_core.specs.Spelling.{SpellsMembers}
 use Rattle.cdr_core.specs.View.{forms_of, values_of}
 use Rattle.cdr_core.specs.Writing.{AreWritable}
@@ -21,10 +24,11 @@ use Rattle.lemonrudder.specs.declared.calling.Calling.{Calling}
 use Rattle.lemonrudder.specs.declared.refusal.Refusal.{Refusal}
 use Rattle.lemonrudder.specs.Calls.{Stays}
 use Rattle.lemonrudder.specs.Declares.{Spell}
-use Rattle.lemonrudder.specs.Invokes.{AreArguments, AreAsked, OnCall, Question, asked}
+use Rattle.lemonrudder.specs.Invokes.{AreArguments, AreAsked, AreNoArguments, IsTyped, IsWhyUnasked, OnCall, Question, asked}
 use Rattle.lemonrudder.specs.Naming.{call_numbered, or_range, order_named}
-use Rattle.lemonrudder.specs.Refusals.{refusal_of_calling, refusal_of_recalling, refusal_of_redirecting}
+use Rattle.lemonrudder.specs.Refusals.{refusal_of_calling, refusal_of_fault, refusal_of_recalling, refusal_of_redirecting}
 use Rattle.lemonrudder.specs.Resuming.{OnRecall, OnRedirect}
+use Rattle.lemonrudder.specs.Spelled.{IsWhyUnread}
 use Rattle.lemonrudder.proofs.Clients.{named_ok, stands_after, stands_silent}
 
 -- the values that were read, as the code lends them
@@ -41,6 +45,16 @@ not_writable b xs decides not = λ may. false≢true (sym not ∙ decides.1 may)
 -- the values that can be asked for, as the code lends them
 pub asked_are : (q : Question) (xs vs : List Val) → xs ≡ vs → AreAsked q (values_of vs) → AreAsked q (values_of xs)
 asked_are q xs vs same are = subst (λ zs. AreAsked q (values_of zs)) (sym same) are
+
+-- octets that are not read as arguments
+kind_why : (q : Question) (k : Kind) (n : ℕ) → AreNoArguments q (refusal_of_fault (record { kind = k; at = n })) → IsWhyUnasked q (refusal_of_fault (record { kind = k; at = n }))
+kind_why q fault.Short n why = why
+kind_why q k n why = why
+
+pub unread_why : (q : Question) (types : Forms) (order : Order) (e : Refusal) → IsTyped q types order → IsWhyUnread types order q.arguments e → IsWhyUnasked q e
+unread_why q types order e of (inl why) = subst (IsWhyUnasked q) (sym why.1) (kind_why q why.0.kind why.0.at (types, order, of, inl (why.0, refl, why.2)))
+unread_why q types order e of (inr (inl why)) = subst (IsWhyUnasked q) (sym why.2) (types, order, of, inr (inl (why.0, why.1, refl, why.3, why.4)))
+unread_why q types order e of (inr (inr why)) = subst (IsWhyUnasked q) (sym why.0) (inr (types, order, of, inr (inr (refl, why.1))))
 
 -- the client does not take it
 pub client_refuses : (now expiration : ℕ) (q : Question) (s t : Calling) (xs : List Val) (f : CallError) (r : Result ℕ Refusal) → AreAsked q (values_of xs)

@@ -2,12 +2,14 @@ mod Asked
 mod Adjusting
 mod Assemblers
 mod Bounded
+mod Carrying
 mod Catalogues
 mod Clients
 mod Coding
 mod ContextLists
 mod Counts
 mod Declaring
+mod Doors
 mod Ended
 mod Finding
 mod Handing
@@ -17,6 +19,7 @@ mod Idling
 mod Invoking
 mod Lending
 mod Machine
+mod Noting
 mod Offered
 mod Owing
 mod OwingLate

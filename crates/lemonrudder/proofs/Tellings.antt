@@ -1,5 +1,5 @@
 -- Who waits is told, one after another.
-use Rattle.std.proofs.Common.{◌≡◌, ◌==◌, ◌||◌, if◌then◌else◌, ◌∙◌, ℕ, Bool, true, false, List, [], ◌∷◌, ◌++◌, Option, Some, None, Result, Ok, Err, is_err, is_ok, OnOk, OnErr, length, take, ap, refl, subst, sym, arith, append_assoc, append-nil}
+use Rattle.std.proofs.Common.{◌≡◌, ◌==◌, ◌||◌, if◌then◌else◌, ◌∙◌, ℕ, Bool, true, false, List, [], ◌∷◌, ◌++◌, Option, Some, None, Result, Ok, Err, is_err, is_ok, OnOk, OnErr, length, take, ap, refl, subst, sym, arith, append-nil}
 use Rattle.std.proofs.lemmas.Grind.{common_steps}
 use Rattle.std.proofs.lemmas.List.{take-append-le}
 use Rattle.std.specs.BTreeMap.{is_at}
@@ -8,7 +8,9 @@ use Rattle.std.specs.Ordering.{nat_cmp}
 use Rattle.ft_log.specs.Holding.{Holding}
 use Rattle.ft_log.specs.Performed.{Performed}
 use Rattle.ft_objects.specs.Families.{families_offer}
+use Rattle.ft_orb.specs.declared.ending.Ending.TheVariants.{Memory as OutOfMemory}
 use Rattle.ft_orb.specs.declared.parked.Waiter.{Waiter}
+use Rattle.ft_orb.specs.Carrying.{reply_with}
 use Rattle.ft_orb.specs.Deeds.{Missed, Reached, Told, reply_to, rest_of}
 use Rattle.ft_orb.specs.declared.engine.Engine.{Engine}
 use Rattle.ft_orb.specs.declared.error.ServeError.{ServeError}
@@ -20,68 +22,13 @@ use Rattle.ft_orb.specs.Requests.{Call}
 use Rattle.lemonrudder.specs.declared.connections.Connections.{Connections}
 use Rattle.lemonrudder.specs.declared.due.Due.{Due}
 use Rattle.lemonrudder.specs.declared.serving.Serving.{Serving}
-use Rattle.lemonrudder.specs.Connected.{OnlyDue, is_there, owed_in}
+use Rattle.lemonrudder.specs.Connected.{AreAsNoted, Notes, OnlyDue, is_there, owed_in}
 use Rattle.lemonrudder.specs.Dues.{owed}
-use Rattle.lemonrudder.specs.Serves.{is_named, owed_on}
+use Rattle.lemonrudder.specs.Replying.{Contexts}
+use Rattle.lemonrudder.specs.Serves.{KeepsNotes, is_named, owed_on}
 use Rattle.lemonrudder.specs.Settling.{TellsAll}
-use Rattle.lemonrudder.specs.Telling.{AreDue, AreTold, Scene, Tells, after_all, after_one, is_reached, replies_on, who}
-
-or-assoc : (a b c : Bool) → ((a || b) || c) ≡ (a || (b || c))
-or-assoc true b c = refl
-or-assoc false b c = refl
-
-module _ (x : Settings) (n : ℕ) where
-  after-snoc : (g : Scene) (told : List Told) (t : Told) → after_all x n g (told ++ t ∷ []) ≡ after_one x n (after_all x n g told) t
-  after-snoc g [] t = refl
-  after-snoc g (u ∷ told) t = after-snoc (after_one x n g u) told t
-
-  are-snoc : (g : Scene) (told : List Told) (t : Told) → AreTold x n g told → AreTold x n (after_all x n g told) (t ∷ []) → AreTold x n g (told ++ t ∷ [])
-  are-snoc g [] t are one = one
-  are-snoc g (u ∷ told) t are one = (are.0, are-snoc (after_one x n g u) told t are.1 one)
-
-replies-snoc : (c : ℕ) (outcome : Performed) (told later : List Told) → replies_on c outcome (told ++ later) ≡ replies_on c outcome told ++ replies_on c outcome later
-replies-snoc c outcome [] later = refl
-replies-snoc c outcome (Reached w ∷ told) later =
-    ap (λ (l : List ℕ). (if w.connection == c then reply_to outcome w else []) ++ l) (replies-snoc c outcome told later)
-    ∙ sym (append_assoc (if w.connection == c then reply_to outcome w else []) (replies_on c outcome told) (replies_on c outcome later))
-replies-snoc c outcome (Missed w ∷ told) later = replies-snoc c outcome told later
-
-reached-snoc : (c : ℕ) (told later : List Told) → is_reached c (told ++ later) ≡ (is_reached c told || is_reached c later)
-reached-snoc c [] later = refl
-reached-snoc c (Reached w ∷ told) later = ap (λ b. (w.connection == c) || b) (reached-snoc c told later) ∙ sym (or-assoc (w.connection == c) (is_reached c told) (is_reached c later))
-reached-snoc c (Missed w ∷ told) later = reached-snoc c told later
-
-due-snoc : (outcome : Performed) (told later : List Told) (s m t : Serving) → AreDue outcome told s m → AreDue outcome later m t → AreDue outcome (told ++ later) s t
-due-snoc outcome told later s m t a b = record {
-  there = λ c. b.there c ∙ a.there c;
-  owed = λ c is.
-      b.owed c (a.there c ∙ is) ∙ ap (λ (l : List ℕ). l ++ replies_on c outcome later) (a.owed c is)
-      ∙ append_assoc (owed_on s c) (replies_on c outcome told) (replies_on c outcome later) ∙ ap (λ (l : List ℕ). owed_on s c ++ l) (sym (replies-snoc c outcome told later));
-  named = λ c.
-      b.named c ∙ ap (λ y. y || is_reached c later) (a.named c)
-      ∙ or-assoc (is_named s c) (is_reached c told) (is_reached c later) ∙ ap (λ y. is_named s c || y) (sym (reached-snoc c told later));
-}
-
-pub due-none : (outcome : Performed) (s t : Serving) → t.connections ≡ s.connections → t.ready ≡ s.ready → AreDue outcome [] s t
-due-none outcome s t connections ready = record {
-  there = λ c. ap (λ (k : Connections). is_there k c) connections;
-  owed = λ c is. ap (λ (k : Connections). owed_in k c) connections ∙ sym (append-nil (owed_on s c));
-  named = λ c. ap (λ (y : BTreeSet ℕ). contains nat_cmp y c) ready ∙ or-none (is_named s c);
-}
-  where
-    or-none : (b : Bool) → b ≡ (b || false)
-    or-none true = refl
-    or-none false = refl
-
-module _ (x : Settings) (held : ℕ → Holding) (calls : List Call) (n : ℕ) (outcome : Performed) where
-  -- one more was told
-  pub tells-more : (g : Scene) (told : List Told) (t : Told) (s m new : Serving) → Tells x held calls n outcome g told s m → Tells x held calls n outcome (after_all x n g told) (t ∷ []) m new
-      → Tells x held calls n outcome g (told ++ t ∷ []) s new
-  tells-more g told t s m new a b = record {
-    are_told = are-snoc x n g told t a.are_told b.are_told;
-    are_due = due-snoc outcome told (t ∷ []) s m new a.are_due b.are_due;
-    stays = subst (λ (y : Scene). Stays families_offer x held calls new.engine y.past y.waiting) (sym (after-snoc x n g told t)) b.stays;
-  }
+use Rattle.lemonrudder.specs.Telling.{AreTold, NotesTold, Parts, PartsFrom, Scene, Tells, after_goodbye, after_one, is_left, is_reached, reply_on, who}
+use Rattle.lemonrudder.proofs.Idling.{not_so}
 
 -- what is due after a Due was taken and another was put, which has more
 pub due-after : (c q : ℕ) (more : List ℕ) (k l m : Connections) (d e : Due) → owed d ≡ owed_in k c → OnlyDue c k l → (is_there l c ≡ true → owed_in m c ≡ owed e) → OnlyDue c l m
@@ -94,39 +41,73 @@ due-after c q more k l m d e took taken put after grown there = by (c == q) refl
         subst (λ y. owed_in m y ≡ owed_in k y ++ more) here (put (taken.0 ∙ subst (λ y. is_there k y ≡ true) (sym here) there) ∙ grown ∙ ap (λ (l : List ℕ). l ++ more) took)
     by false is = (after.1 q is).1 ∙ (taken.1 q is).1 ∙ sym (append-nil (owed_in k q))
 
-due-same : (outcome : Performed) (told : List Told) (s m k : Serving) → k.connections ≡ m.connections → k.ready ≡ m.ready → AreDue outcome told s m → AreDue outcome told s k
-due-same outcome told s m k connections ready a = record {
-  there = λ c. ap (λ (y : Connections). is_there y c) connections ∙ a.there c;
-  owed = λ c is. ap (λ (y : Connections). owed_in y c) connections ∙ a.owed c is;
-  named = λ c. ap (λ (y : BTreeSet ℕ). contains nat_cmp y c) ready ∙ a.named c;
-}
+module _ (x : Settings) (held : ℕ → Holding) (calls : List Call) (n : ℕ) (carried : Waiter → Contexts) (outcome : Performed) where
+  -- where connections and names are the same, it is the same
+  tells-from : (g : Scene) (d : Told) (s m t : Serving) → m.connections ≡ s.connections → m.ready ≡ s.ready → Tells x held calls n carried outcome g d m t → Tells x held calls n carried outcome g d s t
+  tells-from g d s m t connections ready a = record {
+    first = a.first;
+    there = λ c. a.there c ∙ ap (λ (k : Connections). is_there k c) connections;
+    owed = λ c is. a.owed c (ap (λ (k : Connections). is_there k c) connections ∙ is) ∙ ap (λ (k : Connections). owed_in k c ++ reply_on c carried outcome d) connections;
+    named = λ c. a.named c ∙ ap (λ (y : BTreeSet ℕ). contains nat_cmp y c || is_reached c d) ready;
+    noted = noted d a.noted;
+    stays = a.stays;
+  }
+    where
+      noted : (d : Told) → NotesTold d m t → NotesTold d s t
+      noted (Reached w) h = subst (λ (k : Connections). AreAsNoted k t.connections) connections h
+      noted (Missed w) h = subst (λ (k : Connections). Notes w.connection (Some OutOfMemory) k t.connections) connections h
 
-module _ (x : Settings) (held : ℕ → Holding) (calls : List Call) (n : ℕ) (outcome : Performed) where
-  -- nobody was told yet
-  pub tells-none : (g : Scene) (s : Serving) → Stays families_offer x held calls s.engine g.past g.waiting → Tells x held calls n outcome g [] s s
-  tells-none g s st = record { are_told = tt; are_due = due-none outcome s s refl refl; stays = st }
+  pub told-from : (told : List Told) (g h : Scene) (s m t : Serving) → m.connections ≡ s.connections → m.ready ≡ s.ready → AreTold x held calls n carried outcome told g h m t → AreTold x held calls n carried outcome told g h s t
+  told-from [] g h s m t connections ready a = (a.0, a.1 ∙ connections, a.2 ∙ ready)
+  told-from (d ∷ told) g h s m t connections ready a = (a.0, a.1, a.2, tells-from g d s m a.1 connections ready a.3, a.4, a.5)
+
+  told-to : (told : List Told) (g h : Scene) (s m t : Serving) → t.connections ≡ m.connections → t.ready ≡ m.ready → AreTold x held calls n carried outcome told g h s m → AreTold x held calls n carried outcome told g h s t
+  told-to [] g h s m t connections ready a = (a.0, connections ∙ a.1, ready ∙ a.2)
+  told-to (d ∷ told) g h s m t connections ready a = (a.0, a.1, a.2, a.3, a.4, told-to told a.0 h a.2 m t connections ready a.5)
+
+  -- one more was told
+  told-more : (told : List Told) (d : Told) (g h f : Scene) (s m k u t : Serving) → k.connections ≡ m.connections → k.ready ≡ m.ready → AreTold x held calls n carried outcome told g h s m → Tells x held calls n carried outcome h d k u
+      → PartsFrom x (who d).connection (after_one x n h d) f u t → AreTold x held calls n carried outcome (told ++ d ∷ []) g f s t
+  told-more [] d g h f s m k u t connections ready a one part =
+      (f, u, t, tells-from g d s k u (connections ∙ a.1) (ready ∙ a.2) (subst (λ (y : Scene). Tells x held calls n carried outcome y d k u) a.0 one), subst (λ (y : Scene). PartsFrom x (who d).connection (after_one x n y d) f u t) a.0 part, (refl, refl, refl))
+  told-more (e ∷ told) d g h f s m k u t connections ready a one part = (a.0, a.1, a.2, a.3, a.4, told-more told d a.0 h f a.2 m k u t connections ready a.5 one part)
+
+  -- a connection parts, if it is left, and the engine stands for what happened by then
+  parts-by : (c : ℕ) (g : Scene) (s t : Serving) → Parts c s t → Stays families_offer x held calls s.engine g.past g.waiting → (f : Scene) × PartsFrom x c g f s t × Stays families_offer x held calls t.engine f.past f.waiting
+  parts-by c g s t parts st = by (is_left s c) refl
+    where
+      by : (b : Bool) → is_left s c ≡ b → (f : Scene) × PartsFrom x c g f s t × Stays families_offer x held calls t.engine f.past f.waiting
+      by true is =
+          let p = parts.0 is in
+          (after_goodbye x c p.0 g, (λ _. (p.0, refl, p.1), λ not. absurd (not_so not is)), (p.1.4 x held calls g.past g.waiting st).stays)
+      by false is =
+          let p = parts.1 is in
+          (g, (λ left. absurd (not_so is left), λ _. (refl, p)), subst (λ (y : Serving). Stays families_offer x held calls y.engine g.past g.waiting) (sym p) st)
 
   -- who is next was told too
-  pub tells-next : (g : Scene) (told : List Told) (s m k new : Serving) → k.connections ≡ m.connections → k.ready ≡ m.ready → Tells x held calls n outcome g told s m → (c : ℕ) → told_in m.engine n ≡ Some outcome
+  pub told-next : (told : List Told) (g h : Scene) (s m k u t : Serving) → k.connections ≡ m.connections → k.ready ≡ m.ready → AreTold x held calls n carried outcome told g h s m → Stays families_offer x held calls m.engine h.past h.waiting → (c : ℕ)
+      → told_in m.engine n ≡ Some outcome
       → ((held : ℕ → Holding) (calls : List Call) (past : List Event) (waiting : ℕ → List Waiter) → Stays families_offer x held calls m.engine past waiting → IsDueLate families_offer x held calls past waiting n (told_in m.engine n) (Some c) k.engine)
       → told_in k.engine n ≡ told_in m.engine n
-      → ((held : ℕ → Holding) (calls : List Call) (past : List Event) (waiting : ℕ → List Waiter) (outcome : Performed) (w : Waiter) (rest : List Waiter) → Stays families_offer x held calls k.engine past waiting
-      → told_in k.engine n ≡ Some outcome → waiting n ≡ w ∷ rest → w.connection ≡ c → (t : Told) × (who t ≡ w) × Tells x held calls n outcome (record { past = past; waiting = waiting }) (t ∷ []) k new)
-      → (told : List Told) × Tells x held calls n outcome g told s new
-  tells-next g told s m k new connections ready so c telling due same tell =
-      let h = after_all x n g told in
-      let d = subst (λ (o : Option Performed). IsDueLate families_offer x held calls h.past h.waiting n o (Some c) k.engine) telling (due held calls h.past h.waiting so.stays) in
-      let one = tell held calls h.past h.waiting outcome d.1 d.2 d.0 (same ∙ telling) d.3 d.4 in
-      (told ++ one.0 ∷ [], tells-more x held calls n outcome g told one.0 s k new (record { are_told = so.are_told; are_due = due-same outcome told s m k connections ready so.are_due; stays = d.0 }) one.2)
+      → ((held : ℕ → Holding) (calls : List Call) (past : List Event) (waiting : ℕ → List Waiter) (w : Waiter) (rest : List Waiter) → Stays families_offer x held calls k.engine past waiting
+      → told_in k.engine n ≡ Some outcome → waiting n ≡ w ∷ rest → w.connection ≡ c → (d : Told) × (who d ≡ w) × Tells x held calls n carried outcome (record { past = past; waiting = waiting }) d k u)
+      → Parts c u t
+      → (told : List Told) × (f : Scene) × AreTold x held calls n carried outcome told g f s t × Stays families_offer x held calls t.engine f.past f.waiting
+  told-next told g h s m k u t connections ready so st c telling due same tell parts =
+      let d = subst (λ (o : Option Performed). IsDueLate families_offer x held calls h.past h.waiting n o (Some c) k.engine) telling (due held calls h.past h.waiting st) in
+      let one = tell held calls h.past h.waiting d.1 d.2 d.0 (same ∙ telling) d.3 d.4 in
+      let on : (who one.0).connection ≡ c = ap (λ (w : Waiter). w.connection) one.1 ∙ d.4 in
+      let p = parts-by (who one.0).connection (after_one x n h one.0) u t (subst (λ y. Parts y u t) (sym on) parts) one.2.stays in
+      (told ++ one.0 ∷ [], p.0, told-more told one.0 g h p.0 s m k u t connections ready so one.2 p.1, p.2)
 
   -- nobody is left
-  pub tells-all : (g : Scene) (told : List Told) (s m k : Serving) → k.connections ≡ m.connections → k.ready ≡ m.ready → Tells x held calls n outcome g told s m → told_in m.engine n ≡ Some outcome
+  pub tells-all : (told : List Told) (g h : Scene) (s m k : Serving) → k.connections ≡ m.connections → k.ready ≡ m.ready → AreTold x held calls n carried outcome told g h s m → Stays families_offer x held calls m.engine h.past h.waiting
+      → told_in m.engine n ≡ Some outcome
       → ((held : ℕ → Holding) (calls : List Call) (past : List Event) (waiting : ℕ → List Waiter) → Stays families_offer x held calls m.engine past waiting → IsDueLate families_offer x held calls past waiting n (told_in m.engine n) None k.engine)
-      → TellsAll x held calls n outcome g s k
-  tells-all g told s m k connections ready so telling due =
-      let h = after_all x n g told in
-      let d = subst (λ (o : Option Performed). IsDueLate families_offer x held calls h.past h.waiting n o None k.engine) telling (due held calls h.past h.waiting so.stays) in
-      record { i = d.i; taken = d.taken; was = d.was; told = told; are_told = so.are_told; none = d.told; are_due = due-same outcome told s m k connections ready so.are_due; stays = d.stays }
+      → TellsAll x held calls n carried outcome g s k
+  tells-all told g h s m k connections ready so st telling due =
+      let d = subst (λ (o : Option Performed). IsDueLate families_offer x held calls h.past h.waiting n o None k.engine) telling (due held calls h.past h.waiting st) in
+      record { i = d.i; taken = d.taken; was = d.was; told = told; last = h; are_told = told-to told g h s m k connections ready so; none = d.told; stays = d.stays }
 
   -- a reply was made
   pub reply-made : (past : List Event) (waiting : ℕ → List Waiter) (w : Waiter) (rest : List Waiter) (r : Result (Unit {0}) ServeError) (e : Engine Families) (before out : List ℕ) → is_err r ≡ false
@@ -144,36 +125,32 @@ module _ (x : Settings) (held : ℕ → Holding) (calls : List Call) (n : ℕ) (
   -- so it was told, or its connection is lost
   pub tells-reached : (past : List Event) (waiting : ℕ → List Waiter) (w : Waiter) (rest : List Waiter) (s t : Serving) → waiting n ≡ w ∷ rest → Stays families_offer x held calls t.engine past (put_at n rest waiting)
       → ((c : ℕ) → is_there t.connections c ≡ is_there s.connections c)
-      → ((c : ℕ) → is_there s.connections c ≡ true → owed_on t c ≡ owed_on s c ++ (if w.connection == c then reply_to outcome w else []))
+      → ((c : ℕ) → is_there s.connections c ≡ true → owed_on t c ≡ owed_on s c ++ (if w.connection == c then reply_with (carried w) w.asker outcome else []))
       → ((c : ℕ) → is_named t c ≡ (is_named s c || (w.connection == c)))
-      → Tells x held calls n outcome (record { past = past; waiting = waiting }) (Reached w ∷ []) s t
-  tells-reached past waiting w rest s t is st there owed named = record {
-    are_told = (is ∙ ap (λ (l : List Waiter). w ∷ l) (sym (ap rest_of is)), tt);
-    are_due = record {
-      there = there;
-      owed = λ c at. owed c at ∙ ap (λ (l : List ℕ). owed_on s c ++ l) (sym (append-nil (if w.connection == c then reply_to outcome w else [])));
-      named = λ c. named c ∙ ap (λ b. is_named s c || b) (or-false (w.connection == c));
-    };
+      → KeepsNotes s t
+      → Tells x held calls n carried outcome (record { past = past; waiting = waiting }) (Reached w) s t
+  tells-reached past waiting w rest s t is st there owed named noted = record {
+    first = is ∙ ap (λ (l : List Waiter). w ∷ l) (sym (ap rest_of is));
+    there = there;
+    owed = owed;
+    named = named;
+    noted = noted;
     stays = subst (λ (l : List Waiter). Stays families_offer x held calls t.engine past (put_at n l waiting)) (sym (ap rest_of is)) st;
   }
-    where
-      or-false : (b : Bool) → b ≡ (b || false)
-      or-false true = refl
-      or-false false = refl
 
   pub tells-missed : (past : List Event) (waiting : ℕ → List Waiter) (w : Waiter) (rest : List Waiter) (s t : Serving) → waiting n ≡ w ∷ rest
       → Stays families_offer x held calls t.engine (Lost w.connection ∷ past) (still x.limits (Lost w.connection ∷ past) (put_at n rest waiting))
       → ((c : ℕ) → is_there t.connections c ≡ is_there s.connections c)
       → ((c : ℕ) → is_there s.connections c ≡ true → owed_on t c ≡ owed_on s c)
       → ((c : ℕ) → is_named t c ≡ is_named s c)
-      → Tells x held calls n outcome (record { past = past; waiting = waiting }) (Missed w ∷ []) s t
-  tells-missed past waiting w rest s t is st there owed named = record {
-    are_told = (is ∙ ap (λ (l : List Waiter). w ∷ l) (sym (ap rest_of is)), tt);
-    are_due = record {
-      there = there;
-      owed = λ c at. owed c at ∙ sym (append-nil (owed_on s c));
-      named = λ c. named c ∙ or-false (is_named s c);
-    };
+      → Notes w.connection (Some OutOfMemory) s.connections t.connections
+      → Tells x held calls n carried outcome (record { past = past; waiting = waiting }) (Missed w) s t
+  tells-missed past waiting w rest s t is st there owed named noted = record {
+    first = is ∙ ap (λ (l : List Waiter). w ∷ l) (sym (ap rest_of is));
+    there = there;
+    owed = λ c at. owed c at ∙ sym (append-nil (owed_on s c));
+    named = λ c. named c ∙ or-false (is_named s c);
+    noted = noted;
     stays = subst (λ (l : List Waiter). Stays families_offer x held calls t.engine (Lost w.connection ∷ past) (still x.limits (Lost w.connection ∷ past) (put_at n l waiting))) (sym (ap rest_of is)) st;
   }
     where

@@ -1,5 +1,5 @@
 -- What a call on a client does.
-use Rattle.std.specs.Prelude.{◌≡◌, ◌≢◌, ℕ, ◌<◌, ℤ, pos, Bool, List, [], ◌∷◌, ◌++◌, ◌≤◌, length, min, take, drop, is_some, option_map, Option, Some, None, Result, Ok, Err, FitsSigned, ⊤}
+use Rattle.std.specs.Prelude.{◌≡◌, ◌≢◌, ℕ, ◌<◌, ℤ, pos, Bool, true, List, [], ◌∷◌, ◌++◌, ◌≤◌, length, min, take, drop, is_some, option_map, Option, Some, None, Result, Ok, Err, FitsSigned}
 use Rattle.std.specs.Int.{from_bool, w32}
 use Rattle.std.specs.Option.{option_and_then}
 use Rattle.cdr_core.specs.declared.order.Order.TheVariants.{Big}
@@ -82,10 +82,11 @@ OnCancel call s t (Err e) = ⊥
 abbrev pub OnTick : (now : ℕ) → Calling → Calling → Result ℕ Refusal → Type 0
 OnTick now s t r = (r ≡ Ok 0) × Becomes (happened (Ticked now)) s t
 
--- octets came; where an allocation failed a front of them, not all, was taken, and the connection is lost
+-- octets came; where an allocation failed, which they need only on a connection, a front of them, not all, was taken, and the connection
+-- is lost
 abbrev pub OnFeed : List ℕ → Calling → Calling → Result ℕ Refusal → Type 0
 OnFeed octets s t (Ok n) = (n ≡ length octets) × Becomes (happened (Fed octets)) s t
-OnFeed octets s t (Err e) = (e ≡ refusal.Lost) × ((x : Standing) → Stands s x → (n : ℕ) × (n < length octets)
+OnFeed octets s t (Err e) = (e ≡ refusal.Lost) × ((x : Standing) → Stands s x → (is_some x.client.link ≡ true) × (n : ℕ) × (n < length octets)
     × Stands t (record x { client = parted (told_of (down x.client.limits) (take n octets) x.client x.client.link) }))
 
 -- the body of the reply by which a call ended, if it ended so
@@ -143,5 +144,5 @@ IsName id = (1 ≤ length id) × (length id ≤ 256) × IsClean id
 abbrev pub IsMade : (id : List ℕ) → Result Calling Refusal → Type 0
 IsMade id (Ok s) = (limits : Limits) × HasLimits 1048576 4 limits × Stands s (record { client = new_client id V12 limits; due = []; last = None })
 IsMade id (Err refusal.Text) = ¬ (IsName id)
-IsMade id (Err refusal.Memory) = ⊤
+IsMade id (Err refusal.Memory) = IsName id
 IsMade id (Err e) = ⊥

@@ -1,5 +1,5 @@
 -- How types are spelled by the codes of the header: a code of several parts stands after the types that it takes.
-use Rattle.std.specs.Prelude.{◌≡◌, ℕ, suc, List, [], ◌∷◌, ◌++◌, Result, Ok, Err, ⊤}
+use Rattle.std.specs.Prelude.{◌≡◌, ◌≢◌, ℕ, suc, List, [], ◌∷◌, ◌++◌, Result, Ok, Err}
 use Rattle.std.proofs.Common.{Vec, Global}
 use Rattle.cdr_core.specs.declared.types.Ty.{Ty}
 use Rattle.cdr_core.specs.Fitting.{AreValid}
@@ -46,9 +46,13 @@ abbrev mutual
 abbrev pub SpellNone : List ℕ → Type 0
 SpellNone codes = (ts : Forms) → AreCodes ts codes → ¬ (AreValid ts)
 
--- codes are read as types, which are valid; or they spell none, or memory is short
+-- some codes in front are those of types
+abbrev pub BeginTypes : List ℕ → Type 0
+BeginTypes codes = (ts : Forms) × (front : List ℕ) × (rest : List ℕ) × (codes ≡ front ++ rest) × (front ≢ []) × AreCodes ts front
+
+-- codes are read as types, which are valid; or they spell none, or memory is short, which types take
 abbrev pub AreTypes : List ℕ → Result (Vec Ty Global) Refusal → Type 0
 AreTypes codes (Ok types) = AreCodes (forms_of types.items) codes × AreValid (forms_of types.items)
 AreTypes codes (Err refusal.Types) = SpellNone codes
-AreTypes codes (Err refusal.Memory) = ⊤
+AreTypes codes (Err refusal.Memory) = BeginTypes codes
 AreTypes codes (Err e) = ⊥

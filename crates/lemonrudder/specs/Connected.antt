@@ -1,8 +1,9 @@
 -- The connections of a server: words of `Serves`, and so of what the exports promise.
-use Rattle.std.specs.Prelude.{◌≡◌, ◌==◌, ℕ, Bool, true, false, List, [], length, Option, is_some}
+use Rattle.std.specs.Prelude.{◌≡◌, ◌==◌, ℕ, Bool, true, false, List, [], length, Option, Some, None, is_some}
 use Rattle.std.specs.Option.{option_map_or}
 use Rattle.std.specs.Ordering.{nat_cmp}
 use Rattle.std.specs.BTreeMap.{get}
+use Rattle.ft_orb.specs.declared.ending.Ending.{Ending}
 use Rattle.ft_orb.specs.declared.engine.Engine.{Engine}
 use Rattle.ft_orb.specs.Engines.{Awaited, waits_in}
 use Rattle.lemonrudder.specs.declared.connections.Connection.{Connection}
@@ -23,6 +24,14 @@ how_many k = length k.entries.entries
 abbrev pub owed_in : Connections → ℕ → List ℕ
 owed_in k c = option_map_or (λ (x : Connection). owed x.due) (connection_at k c) []
 
+-- whether it is leaving: goodbye is said on it once nobody waits there for an outcome
+abbrev pub leaves_in : Connections → ℕ → Bool
+leaves_in k c = option_map_or (λ (x : Connection). x.leaving) (connection_at k c) false
+
+-- why it ended, where that is noted
+abbrev pub why_in : Connections → ℕ → Option Ending
+why_in k c = option_map_or (λ (x : Connection). x.why) (connection_at k c) None
+
 -- it is there as before, and the same is due on it
 abbrev pub IsSameAt : ℕ → Connections → Connections → Type 0
 IsSameAt q k l = (is_there l q ≡ is_there k q) × (owed_in l q ≡ owed_in k q)
@@ -38,6 +47,31 @@ AreOthers c k l = (q : ℕ) → (c == q) ≡ false → IsSameAt q k l
 -- .. of which only what is due may be another
 abbrev pub OnlyDue : ℕ → Connections → Connections → Type 0
 OnlyDue c k l = (is_there l c ≡ is_there k c) × AreOthers c k l
+
+-- the same is noted of it
+abbrev pub IsAsNoted : ℕ → Connections → Connections → Type 0
+IsAsNoted q k l = (leaves_in l q ≡ leaves_in k q) × (why_in l q ≡ why_in k q)
+
+-- .. of each
+abbrev pub AreAsNoted : Connections → Connections → Type 0
+AreAsNoted k l = (q : ℕ) → IsAsNoted q k l
+
+-- .. but for c
+abbrev pub AreOthersNoted : ℕ → Connections → Connections → Type 0
+AreOthersNoted c k l = (q : ℕ) → (c == q) ≡ false → IsAsNoted q k l
+
+-- why a connection ended by now, which ended before for such a reason, if it did
+abbrev pub ended_by_now : (now before : Option Ending) → Option Ending
+ended_by_now (Some e) before = Some e
+ended_by_now None before = before
+
+-- why c ended is noted, if it did, and nothing else
+abbrev pub Notes : ℕ → Option Ending → Connections → Connections → Type 0
+Notes c why k l = (leaves_in l c ≡ leaves_in k c) × (is_there k c ≡ true → why_in l c ≡ ended_by_now why (why_in k c)) × AreOthersNoted c k l
+
+-- c is leaving, if it is there, and nothing else changes
+abbrev pub StartsLeaving : ℕ → Connections → Connections → Type 0
+StartsLeaving c k l = AreSame k l × (is_there k c ≡ true → leaves_in l c ≡ true) × (why_in l c ≡ why_in k c) × AreOthersNoted c k l
 
 -- Words of private functions.
 

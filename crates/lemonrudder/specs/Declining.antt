@@ -4,11 +4,12 @@ use Rattle.giop_link.specs.Linking.{close_connection}
 use Rattle.ft_log.specs.Holding.{Holding}
 use Rattle.ft_log.specs.Performed.{Performed}
 use Rattle.ft_objects.specs.Families.{families_offer}
+use Rattle.ft_orb.specs.declared.ending.Ending.TheVariants.{GivenUp}
 use Rattle.ft_orb.specs.declared.error.ServeError.{ServeError}
 use Rattle.ft_orb.specs.declared.error.ServeError.TheVariants.{Memory as Short}
 use Rattle.ft_orb.specs.declared.parked.Waiter.{Waiter}
 use Rattle.ft_orb.specs.Deeds.{reply_to}
-use Rattle.ft_orb.specs.Engines.{Awaited}
+use Rattle.ft_orb.specs.Engines.{Awaited, EndsLast}
 use Rattle.ft_orb.specs.History.{Event}
 use Rattle.ft_orb.specs.Parking.{AsksLate, DeclinesLate, Settings, not_now, waiter_of, waits_on}
 use Rattle.ft_orb.specs.Requests.{Call}
@@ -21,7 +22,7 @@ use Rattle.lemonrudder.specs.Late.{ForgetsLate, WhereAsks}
 use Rattle.lemonrudder.specs.Naming.{system_name_named}
 use Rattle.lemonrudder.specs.Outcomes.{ByName}
 use Rattle.lemonrudder.specs.Refusals.{refusal_of_serving}
-use Rattle.lemonrudder.specs.Serves.{ByCalled, ByTicket, ChangesDue, Forgets, IsIdle, IsSame, KeepsCatalogue, KeepsTickets, done_of, owed_on}
+use Rattle.lemonrudder.specs.Serves.{ByCalled, ByTicket, ChangesDue, IsIdle, IsSame, KeepsCatalogue, KeepsTickets, NotesWhy, done_of, owed_on}
 use Rattle.lemonrudder.specs.Settling.{Withdraws}
 
 -- The refusal is due after what was, where a reply is wished for, and nothing is kept. Or memory is short for it: the request is given
@@ -35,7 +36,7 @@ Declines c outcome s t (Err e) = (owed_on t c ≡ owed_on s c) × (n : ℕ) × (
 
 -- the request that waits, which came on a connection, is refused
 abbrev pub DeclinesAsked : ℕ → Performed → Serving → Serving → Result ℕ Refusal → Type 0
-DeclinesAsked c outcome s t r = (o : Result (Unit {0}) ServeError) × (r ≡ done_of 0 refusal_of_serving o) × IsIdle t × ChangesDue c s t × KeepsCatalogue s t × KeepsTickets s t × Declines c outcome s t o
+DeclinesAsked c outcome s t r = (o : Result (Unit {0}) ServeError) × (r ≡ done_of 0 refusal_of_serving o) × IsIdle t × ChangesDue c s t × KeepsCatalogue s t × KeepsTickets s t × Declines c outcome s t o × NotesWhy c s t
 
 -- .. or one that is parked
 abbrev pub Refuses : Found → Performed → Serving → Serving → Result ℕ Refusal → Type 0
@@ -52,4 +53,5 @@ abbrev pub OnGoodbye : ℕ → Serving → Serving → Result ℕ Refusal → Ty
 OnGoodbye ticket s t r = ByTicket ticket s t r (λ w.
     (0 < waits_on s.engine w.connection → (r ≡ Err refusal.Parks) × IsSame s t)
     × (waits_on s.engine w.connection ≡ 0 → ((r ≡ Err refusal.Memory) × IsSame s t)
-    ⊎ ((r ≡ Ok 0) × IsIdle t × ChangesDue w.connection s t × (owed_on t w.connection ≡ owed_on s w.connection ++ close_connection) × KeepsCatalogue s t × KeepsTickets s t × (n : ℕ) × Forgets n s t × ForgetsLate n s t)))
+    ⊎ ((r ≡ Ok 0) × IsIdle t × ChangesDue w.connection s t × (owed_on t w.connection ≡ owed_on s w.connection ++ close_connection) × KeepsCatalogue s t × KeepsTickets s t × (n : ℕ) × ForgetsLate n s t
+    × EndsLast t.engine w.connection GivenUp × NotesWhy w.connection s t)))

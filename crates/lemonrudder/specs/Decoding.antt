@@ -1,5 +1,5 @@
 -- Codes of types that are read one by one.
-use Rattle.std.specs.Prelude.{◌≡◌, ℕ, List, [], ◌∷◌, ◌++◌, Option, Some, None, Result, Ok, Err, ⊤}
+use Rattle.std.specs.Prelude.{◌≡◌, ℕ, List, [], ◌∷◌, ◌++◌, Option, Some, None, Result, Ok, Err}
 use Rattle.cdr_core.specs.Form.{Forms}
 use Rattle.cdr_core.specs.View.{forms_of}
 use Rattle.lemonrudder.specs.declared.refusal.Refusal.{Refusal}
@@ -19,11 +19,11 @@ HasRead (Some Struct) types codes = (front : List ℕ) × (codes ≡ front ++ 14
 abbrev pub BeginNone : List ℕ → Type 0
 BeginNone codes = (rest : List ℕ) (ts : Forms) → ¬ (AreCodes ts (codes ++ rest))
 
--- one more was read; or no codes of types begin so, or memory is short
+-- one more was read; or no codes of types begin so, or memory is short, which types take of which it is the last
 abbrev pub Reads : List ℕ → Spelling → Result (Unit {0}) Refusal → Type 0
 Reads codes s (Ok x) = HasRead s.waits (forms_of s.types.items) codes
 Reads codes s (Err refusal.Types) = BeginNone codes
-Reads codes s (Err refusal.Memory) = ⊤
+Reads codes s (Err refusal.Memory) = (ts : Forms) × AreCodes ts codes
 Reads codes s (Err e) = ⊥
 
 -- a code is read after those that were read before

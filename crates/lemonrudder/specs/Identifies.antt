@@ -1,5 +1,5 @@
 -- What naming the repository ids of an object does.
-use Rattle.std.specs.Prelude.{◌≡◌, ◌≢◌, ◌⊎◌, ℕ, List, [], ◌∷◌, ◌++◌, Some, Result, Ok, Err, ⊤}
+use Rattle.std.specs.Prelude.{◌≡◌, ◌≢◌, ◌⊎◌, ℕ, List, [], ◌∷◌, ◌++◌, Some, Result, Ok, Err}
 use Rattle.std.proofs.Common.{Vec, Global}
 use Rattle.ft_objects.specs.Filling.{AreClean, AreNoOperations, changed, texts, with_identity}
 use Rattle.lemonrudder.specs.declared.cataloguing.Cataloguing.{Cataloguing}
@@ -26,7 +26,7 @@ EndsInNoNul octets = (octets ≡ []) ⊎ ((front : List ℕ) × (last : ℕ) × 
 abbrev pub AreIds : List ℕ → Result (Vec (Vec ℕ Global) Global) Refusal → Type 0
 AreIds octets (Ok ids) = AreIdsOf octets (texts ids)
 AreIds octets (Err refusal.Text) = EndsInNoNul octets
-AreIds octets (Err refusal.Memory) = ⊤
+AreIds octets (Err refusal.Memory) = octets ≢ []
 AreIds octets (Err e) = ⊥
 
 -- with these repository ids, of the object under the key
@@ -35,7 +35,7 @@ with_ids key ids x = record x { offer = with_identity key x.offer; ids = changed
 
 -- none are named, and nothing has changed: the octets end in no NUL, or memory is short
 abbrev pub NamesNone : List ℕ → Filling → Filling → Result ℕ Refusal → Type 0
-NamesNone octets old new r = (new ≡ old) × (((r ≡ Err refusal.Text) × EndsInNoNul octets) ⊎ (r ≡ Err refusal.Memory))
+NamesNone octets old new r = (new ≡ old) × (((r ≡ Err refusal.Text) × EndsInNoNul octets) ⊎ ((r ≡ Err refusal.Memory) × (octets ≢ [])))
 
 -- an object names repository ids, and has the operations that ask for them
 abbrev pub OnRepositoryIds : (key octets : List ℕ) → Cataloguing → Cataloguing → Result ℕ Refusal → Type 0

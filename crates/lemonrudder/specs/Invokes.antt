@@ -1,5 +1,5 @@
 -- A call that a client makes.
-use Rattle.std.specs.Prelude.{◌≡◌, ◌⊎◌, ℕ, suc, true, List, Some, None, Result, Ok, Err, ⊤}
+use Rattle.std.specs.Prelude.{◌≡◌, ◌⊎◌, ℕ, suc, true, List, Some, None, Result, Ok, Err}
 use Rattle.cdr_core.specs.declared.order.Order.{Order}
 use Rattle.cdr_core.specs.Form.{Forms}
 use Rattle.cdr_core.specs.Spelling.{IsClean, SpellsMembers}
@@ -14,7 +14,7 @@ use Rattle.lemonrudder.specs.declared.calling.Question.{Question as QuestionOfCo
 use Rattle.lemonrudder.specs.declared.refusal.Refusal.{Refusal}
 use Rattle.lemonrudder.specs.declared.refusal.Refusal.TheVariants as refusal
 use Rattle.lemonrudder.specs.Calls.{Standing, Stands, Stays, happened}
-use Rattle.lemonrudder.specs.Codes.{SpellNone}
+use Rattle.lemonrudder.specs.Codes.{BeginTypes, SpellNone}
 use Rattle.lemonrudder.specs.Declares.{Spell}
 use Rattle.lemonrudder.specs.Naming.{order_named}
 use Rattle.lemonrudder.specs.Refusals.{refusal_of_calling}
@@ -62,7 +62,7 @@ IsWhyUnasked q refusal.Short = AreNoArguments q refusal.Short
 IsWhyUnasked q refusal.Value = AreNoArguments q refusal.Value
 IsWhyUnasked q refusal.Text = (vs : Values) × AreArguments q vs × (¬ (IsClean q.operation))
 IsWhyUnasked q refusal.Long = (vs : Values) × AreAsked q vs × (¬ (AreWritable vs))
-IsWhyUnasked q refusal.Memory = ⊤
+IsWhyUnasked q refusal.Memory = BeginTypes q.types ⊎ AreNoArguments q refusal.Memory
 IsWhyUnasked q e = ⊥
 
 -- why a call is not made: it can't be asked, or the client does not take it

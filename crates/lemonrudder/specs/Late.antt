@@ -1,6 +1,6 @@
 -- What a call on a server does to what it stands for, also where requests were refused before: by what is known of the calls that
 -- were taken. At rest a server `Stays`, and while a request waits it `AsksLate`.
-use Rattle.std.specs.Prelude.{◌≡◌, ℕ, ◌+◌, Bool, not, List, [], ◌∷◌, ◌++◌, length, Result}
+use Rattle.std.specs.Prelude.{◌≡◌, ℕ, ◌+◌, Bool, not, List, [], ◌∷◌, ◌++◌, length, IfOk, Some, Result}
 use Rattle.ft_log.specs.Holding.{Holding, known}
 use Rattle.ft_log.specs.Performed.{Performed}
 use Rattle.ft_objects.specs.Families.{families_offer}
@@ -9,8 +9,9 @@ use Rattle.ft_orb.specs.declared.error.ConnectError.{ConnectError}
 use Rattle.ft_orb.specs.declared.error.ServeError.{ServeError}
 use Rattle.ft_orb.specs.declared.events.Note.TheVariants.{Memory, Refused}
 use Rattle.ft_orb.specs.declared.parked.Waiter.{Waiter}
+use Rattle.ft_orb.specs.Carrying.{asker_in, reply_if, unless_failed}
 use Rattle.ft_orb.specs.Bounds.{StopsWhereDue, fed_in, piece_in}
-use Rattle.ft_orb.specs.Engines.{Awaited}
+use Rattle.ft_orb.specs.Engines.{Awaited, EndsHeard}
 use Rattle.ft_orb.specs.History.{Close, Event, Gone, Lost, Opened, Piece, completed, line}
 use Rattle.ft_orb.specs.Outputs.{is_going}
 use Rattle.ft_orb.specs.Parking.{AsksLate, EndsLate, FeedsLate, ResumesLate, Settings, Stays, put_at, still}
@@ -45,21 +46,24 @@ abbrev pub IsClosedLate : ℕ → Bool → Serving → Type 0
 IsClosedLate c closed s = WhereStays s (λ x held calls past waiting. closed ≡ not (is_going x.limits (line past c)))
     × WhereAsks s (λ x held calls past waiting moment octets written w. closed ≡ not (is_going x.limits (line (Piece w.connection moment octets ∷ past) c)))
 
--- octets of a connection are taken until as many are due as may be, and what is written is due after what was
+-- octets of a connection are taken until as many are due as may be, and what is written is due after what was; where its stream ends
+-- it has ended, for that reason
 abbrev pub TakesLate : (c moment : ℕ) → List ℕ → Serving → Serving → Result Taken ServeError → Type 0
 TakesLate c moment octets s t f = WhereStays s (λ x held calls past waiting.
     FeedsLate families_offer x held calls past waiting c moment (piece_in octets f) (fed_in f) t.engine (owed_in s.connections c) (owed_in t.connections c)
-    × StopsWhereDue x held past s.setup.terms.due (length (owed_in s.connections c)) c moment octets f)
+    × StopsWhereDue x held past s.setup.terms.due (length (owed_in s.connections c)) c moment octets f
+    × IfOk (fed_in f) (λ fed. EndsHeard s.engine t.engine c x.limits (line past c) (piece_in octets f) fed))
 
 -- a moment has come
 abbrev pub TicksLate : ℕ → Serving → Serving → Type 0
 TicksLate moment s t = (x : Settings) (held : ℕ → Holding) (calls : List Call) (past : List Event) (waiting : ℕ → List Waiter) (c : ℕ) → Stays families_offer x held calls s.engine past waiting
     → line past c ≡ Gone → EndsLate families_offer x held calls past waiting (Piece c moment []) Refused t.engine [] []
 
--- what waits has this outcome, and the answer is due after what was, on its connection
+-- what waits has this outcome, and the answer is due after what was, on its connection, but for the service contexts that it carries
 abbrev pub AnswersLate : ℕ → Performed → Serving → Serving → Result (Unit {0}) ServeError → Type 0
 AnswersLate c outcome s t o = WhereAsks s (λ x held calls past waiting moment octets written w.
-    ResumesLate families_offer x (put_at (length calls) (known outcome) held) (calls ++ w.call ∷ []) past waiting w.connection moment octets written (note_of o) t.engine (owed_in s.connections c) (owed_in t.connections c))
+    ResumesLate families_offer x (put_at (length calls) (known outcome) held) (calls ++ w.call ∷ []) past waiting w.connection moment octets written (note_of o) t.engine
+    (owed_in s.connections c) (owed_in s.connections c ++ unless_failed o (reply_if [] (asker_in s.engine) (Some outcome))))
 
 -- what waits does not count, and its connection is lost: n requests and locates of its piece were answered before
 abbrev pub ForgetsLate : ℕ → Serving → Serving → Type 0

@@ -13,7 +13,7 @@ use Rattle.lemonrudder.specs.declared.refusal.Refusal.{Refusal}
 use Rattle.lemonrudder.specs.declared.refusal.Refusal.TheVariants as refusal
 use Rattle.lemonrudder.specs.declared.serving.Serving.{Serving}
 use Rattle.lemonrudder.specs.Late.{WhereAsks}
-use Rattle.lemonrudder.specs.Serves.{ByTicket, IsIdle, IsSame, KeepsCatalogue, KeepsDue, KeepsTickets}
+use Rattle.lemonrudder.specs.Serves.{ByTicket, IsIdle, IsSame, KeepsCatalogue, KeepsDue, KeepsNotes, KeepsTickets}
 
 -- no more may be parked, in all or of those that came on the connection
 abbrev pub HasNoPlace : Awaited → Serving → Type 0
@@ -34,7 +34,7 @@ IsParked w s t r = (r ≡ Ok 0) × IsIdle t × (parked_in t.engine w.number ≡ 
 -- the request of a ticket is parked, which waits
 abbrev pub OnPark : ℕ → Serving → Serving → Result ℕ Refusal → Type 0
 OnPark ticket s t r = ByTicket ticket s t r (λ w. (HasNoPlace w s → (r ≡ Err refusal.Parks) × IsSame s t)
-    × (¬ (HasNoPlace w s) → KeepsDue s t × KeepsCatalogue s t × KeepsTickets s t × (WaitsStill s t r ⊎ IsParked w s t r)))
+    × (¬ (HasNoPlace w s) → KeepsDue s t × KeepsNotes s t × KeepsCatalogue s t × KeepsTickets s t × (WaitsStill s t r ⊎ IsParked w s t r)))
 
 -- how many are parked is reported ..
 abbrev pub OnParked : Serving → Serving → Result ℕ Refusal → Type 0

@@ -1,6 +1,7 @@
--- A raw call that a client makes, or takes up again: its body goes out as it came.
-use Rattle.std.specs.Prelude.{◌≡◌, ◌⊎◌, ℕ, suc, ℤ, ◌<◌, true, List, [], ◌∷◌, length, map, take, Some, None, Result, Ok, Err}
+-- A raw call that a client makes, takes up again, or by which it redirects one: its body goes out as it came.
+use Rattle.std.specs.Prelude.{◌≡◌, ◌≢◌, ◌⊎◌, ℕ, suc, ℤ, ◌<◌, true, false, List, [], ◌∷◌, length, map, take, Some, None, Result, Ok, Err, FitsSigned}
 use Rattle.std.specs.Borrow.{Bor}
+use Rattle.std.specs.Int.{w32}
 use Rattle.std.proofs.Common.{Vec, Global}
 use Rattle.cdr_core.specs.declared.fault.Fault.{Fault}
 use Rattle.cdr_core.specs.declared.order.Order.{Order}
@@ -8,14 +9,17 @@ use Rattle.cdr_core.specs.Spelling.{IsClean, Spells}
 use Rattle.cdr_core.specs.Stopping.{Stops}
 use Rattle.giop_core.specs.declared.header.Version.{Version}
 use Rattle.giop_core.specs.declared.request.ReplyWish.{ReplyWish}
+use Rattle.giop_core.specs.declared.request.ReplyWish.TheVariants as wish
 use Rattle.giop_core.specs.Items.{item_at, list_value}
 use Rattle.giop_core.specs.Rows.{contexts}
 use Rattle.giop_core.specs.Written.{CanAsk, octets_body}
 use Rattle.ft_client.specs.declared.error.RawCallError.{RawCallError}
 use Rattle.ft_client.specs.declared.error.RawRecallError.{RawRecallError}
-use Rattle.ft_client.specs.Calling.{IsRawCallError, IsRawRecallError}
-use Rattle.ft_client.specs.Clients.{Called, Client, Resumed, is_resumed, is_taken}
-use Rattle.ft_client.specs.Messages.{Call, Raw, raw}
+use Rattle.ft_client.specs.declared.error.RawRedirectError.{RawRedirectError}
+use Rattle.ft_client.specs.Calling.{IsFitting, IsRawCallError, IsRawRecallError, IsRawRedirectError}
+use Rattle.ft_client.specs.Clients.{Called, Client, Pending, Redirected, Resumed, find_pending, is_resumed, is_taken}
+use Rattle.ft_client.specs.Messages.{Call, Raw, is_oneway, raw}
+use Rattle.ft_client.specs.Redirections.{asked_anew, in_place_of}
 use Rattle.lemonrudder.specs.declared.calling.Calling.{Calling}
 use Rattle.lemonrudder.specs.declared.calling.raw.RawManner.{RawManner}
 use Rattle.lemonrudder.specs.declared.calling.raw.RawQuestion.{RawQuestion as QuestionOfCode}
@@ -23,7 +27,7 @@ use Rattle.lemonrudder.specs.declared.refusal.Refusal.{Refusal}
 use Rattle.lemonrudder.specs.declared.refusal.Refusal.TheVariants as refusal
 use Rattle.lemonrudder.specs.Calls.{Standing, Stands, Stays, happened}
 use Rattle.lemonrudder.specs.Naming.{call_numbered, order_named, wish_named}
-use Rattle.lemonrudder.specs.Refusals.{refusal_of_fault, refusal_of_raw_calling, refusal_of_raw_recalling}
+use Rattle.lemonrudder.specs.Refusals.{refusal_of_fault, refusal_of_raw_calling, refusal_of_raw_recalling, refusal_of_raw_redirecting}
 
 -- what a raw call asks, as C says it: its wish and its order by number, its service contexts and its body as octets
 pub record RawQuestion : Type 0 where
@@ -52,10 +56,10 @@ AreNoContexts order (octet ∷ octets) e =
     ((f : Fault) × (e ≡ refusal_of_fault f) × Stops contexts order 0 (octet ∷ octets) f)
     ⊎ ((all : List (ℕ × List ℕ)) × (n : ℕ) × (e ≡ refusal.Value) × (n < length (octet ∷ octets)) × Spells contexts order (list_value all) 0 (take n (octet ∷ octets)))
 
--- octets are read as service contexts; or they are none, or memory is short
+-- octets are read as service contexts; or they are none, or memory is short, which none do not take
 abbrev pub ReadsContexts : Order → List ℕ → Result (Vec (ℕ × Bor (List ℕ)) Global) Refusal → Type 0
 ReadsContexts order octets (Ok v) = AreContexts order (map item_at v.items) octets
-ReadsContexts order octets (Err e) = AreNoContexts order octets e ⊎ (e ≡ refusal.Memory)
+ReadsContexts order octets (Err e) = AreNoContexts order octets e ⊎ ((e ≡ refusal.Memory) × (octets ≢ []))
 
 -- the order and the wish that its numbers name, of which a client of this version can ask
 abbrev pub IsNamed : Version → RawQuestion → Order → ReplyWish → Type 0
@@ -78,10 +82,10 @@ abbrev pub IsMisasked : Version → RawQuestion → Refusal → Type 0
 IsMisasked version q e = ((e ≡ refusal.Range) × ((order : Order) (wish : ReplyWish) → ¬ (IsNamed version q order wish)))
     ⊎ ((e ≡ refusal.Text) × (order : Order) × (wish : ReplyWish) × IsNamed version q order wish × (¬ (IsClean q.operation)))
 
--- why nothing can be asked so in this version: that, or its octets are no service contexts, or memory is short
+-- why nothing can be asked so in this version: that, or its octets are no service contexts, or memory is short for those
 abbrev pub IsWhyUnaskedRaw : Version → RawQuestion → Refusal → Type 0
 IsWhyUnaskedRaw version q e = IsMisasked version q e
-    ⊎ (((order : Order) × (wish : ReplyWish) × IsNamed version q order wish × IsClean q.operation × AreNoContexts order q.contexts e) ⊎ (e ≡ refusal.Memory))
+    ⊎ ((order : Order) × (wish : ReplyWish) × IsNamed version q order wish × IsClean q.operation × (AreNoContexts order q.contexts e ⊎ ((e ≡ refusal.Memory) × (q.contexts ≢ []))))
 
 -- why a raw call is not made by a client: it can't be asked, or the client does not take it
 abbrev pub IsWhyNotRaw : (now expiration : ℕ) → RawQuestion → Client → Refusal → Type 0
@@ -107,6 +111,26 @@ OnRecallRaw call now expiration q s t (Ok n) = (n ≡ 0) × (id : ℕ) × (call_
     × ((x : Standing) → Stands s x → (r : Raw) × IsRawAsked x.client.version q r
     × (is_resumed now id (raw_asked q r expiration) x.client ≡ true) × Stands t (happened (Resumed now id (raw_asked q r expiration)) x))
 OnRecallRaw call now expiration q s t (Err e) = Stays s t × ((x : Standing) → Stands s x → IsWhyUnresumedRaw call now expiration q x.client e)
+
+-- A call that is led elsewhere is asked for under another key, by a raw call that wishes for a reply. This is what it asks from now on,
+-- whatever it asked before; where it asked the same, it is that call.
+pub record RedirectsRaw (call : ℤ) (q : RawQuestion) (r : Raw) (x : Standing) (t : Calling) : Type 0 where
+  pub asked : IsRawAsked x.client.version q r
+  pub replied : is_oneway r.wish ≡ false
+  pub fitting : IsFitting call (raw_asked q r) x.client true
+  pub anew : Stands t (record x { client = record x.client { pending = asked_anew call q.key (in_place_of q.operation (octets_body q.body) (raw r)) x.client.pending } })
+  pub same : (p : Pending) → find_pending call x.client.pending ≡ Some p → p.call.form ≡ raw r → p.call.operation ≡ q.operation → p.call.arguments ≡ octets_body q.body → Stands t (happened (Redirected call q.key) x)
+
+-- why a call is not redirected by a raw one: its number is none of 32 bits, or no reply is wished for; it can't be asked, or the client
+-- does not redirect it
+abbrev pub IsWhyUnledRaw : (call : ℤ) → RawQuestion → Client → Refusal → Type 0
+IsWhyUnledRaw call q m e = ((e ≡ refusal.Range) × ((¬ (FitsSigned w32 call)) ⊎ (wish_named q.wish ≡ Some wish.None)))
+    ⊎ (IsWhyUnaskedRaw m.version q e
+    ⊎ ((r : Raw) × IsRawAsked m.version q r × (is_oneway r.wish ≡ false) × (f : RawRedirectError) × (e ≡ refusal_of_raw_redirecting f) × IsRawRedirectError call (raw_asked q r) m f))
+
+abbrev pub OnRedirectRaw : (call : ℤ) → RawQuestion → Calling → Calling → Result ℕ Refusal → Type 0
+OnRedirectRaw call q s t (Ok n) = (n ≡ 0) × ((x : Standing) → Stands s x → (r : Raw) × RedirectsRaw call q r x t)
+OnRedirectRaw call q s t (Err e) = Stays s t × ((x : Standing) → Stands s x → IsWhyUnledRaw call q x.client e)
 
 -- Words of private functions.
 

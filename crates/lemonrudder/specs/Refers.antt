@@ -7,7 +7,7 @@ use Rattle.ior_core.specs.View.{ior_value}
 use Rattle.lemonrudder.specs.declared.referring.Referring.{Referring}
 use Rattle.lemonrudder.specs.declared.refusal.Refusal.{Refusal}
 use Rattle.lemonrudder.specs.declared.refusal.Refusal.TheVariants as refusal
-use Rattle.lemonrudder.specs.Copies.{Copies, Fits}
+use Rattle.lemonrudder.specs.Copies.{Copies, FitsMade}
 
 -- the value of a reference
 abbrev pub reference : Referring → Value
@@ -15,7 +15,7 @@ reference s = ior_value s.ior
 
 -- its text is written, where it can be
 abbrev pub OnPrint : (room new : List ℕ) → Referring → Referring → Result ℕ Refusal → Type 0
-OnPrint room new s t r = (t ≡ s) × (IsWritable (reference s) → Fits (reference_text (reference s)) room new r) × (¬ (IsWritable (reference s)) → (r ≡ Err refusal.Text) × (new ≡ room))
+OnPrint room new s t r = (t ≡ s) × (IsWritable (reference s) → FitsMade (reference_text (reference s)) room new r) × (¬ (IsWritable (reference s)) → (r ≡ Err refusal.Text) × (new ≡ room))
 
 -- the id of its type is copied
 abbrev pub OnTypeId : (room new : List ℕ) → Referring → Referring → Result ℕ Refusal → Type 0

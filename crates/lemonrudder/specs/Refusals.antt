@@ -11,6 +11,8 @@ use Rattle.ft_client.specs.declared.error.RawCallError.{RawCallError}
 use Rattle.ft_client.specs.declared.error.RawCallError.TheVariants as raw_calling
 use Rattle.ft_client.specs.declared.error.RawRecallError.{RawRecallError}
 use Rattle.ft_client.specs.declared.error.RawRecallError.TheVariants as raw_recalling
+use Rattle.ft_client.specs.declared.error.RawRedirectError.{RawRedirectError}
+use Rattle.ft_client.specs.declared.error.RawRedirectError.TheVariants as raw_redirecting
 use Rattle.ft_client.specs.declared.error.RecallError.{RecallError}
 use Rattle.ft_client.specs.declared.error.RecallError.TheVariants as recalling
 use Rattle.ft_client.specs.declared.error.RedirectError.{RedirectError}
@@ -116,6 +118,11 @@ abbrev pub refusal_of_redirecting : RedirectError → Refusal
 refusal_of_redirecting redirecting.NotForwarded = refusal.Forward
 refusal_of_redirecting redirecting.TooLong = refusal.Long
 refusal_of_redirecting redirecting.Memory = refusal.Memory
+
+abbrev pub refusal_of_raw_redirecting : RawRedirectError → Refusal
+refusal_of_raw_redirecting raw_redirecting.FtRequest = refusal.Value
+refusal_of_raw_redirecting (raw_redirecting.Unled e) = refusal_of_redirecting e
+refusal_of_raw_redirecting raw_redirecting.Misplaced = refusal.Place
 
 abbrev pub refusal_of_connecting : ConnectError → Refusal
 refusal_of_connecting connecting.NotNew = refusal.Connection

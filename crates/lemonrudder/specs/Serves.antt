@@ -1,5 +1,5 @@
 -- What a call on a server does.
-use Rattle.std.specs.Prelude.{◌≡◌, ◌==◌, ◌⊎◌, ℕ, ◌+◌, ◌<◌, ◌≤◌, Bool, true, false, not, min, max, List, [], ◌∷◌, ◌++◌, length, drop, IsSome, Option, Some, None, Result, Ok, Err}
+use Rattle.std.specs.Prelude.{◌≡◌, ◌==◌, ◌⊎◌, ℕ, ◌<◌, ◌≤◌, Bool, true, false, min, max, List, [], length, drop, IfErr, IsSome, Option, Some, None, Result, Ok, Err}
 use Rattle.std.specs.Int.{from_bool}
 use Rattle.std.specs.Ordering.{nat_cmp}
 use Rattle.std.specs.BTreeSet.{contains}
@@ -7,18 +7,14 @@ use Rattle.ft_log.specs.Kept.{unexpired}
 use Rattle.ft_orb.specs.declared.engine.Fed.TheVariants as fed
 use Rattle.ft_orb.specs.declared.engine.Taken.{Taken}
 use Rattle.ft_orb.specs.declared.engine.Taken.TheVariants as taken
+use Rattle.ft_orb.specs.declared.ending.Ending.{Ending}
+use Rattle.ft_orb.specs.declared.ending.Ending.TheVariants.{GivenUp}
 use Rattle.ft_orb.specs.declared.error.ConnectError.{ConnectError}
 use Rattle.ft_orb.specs.declared.error.ServeError.{ServeError}
-use Rattle.ft_orb.specs.declared.events.Note.TheVariants.{Memory, Refused}
-use Rattle.ft_orb.specs.Engines.{Asks, Awaited, Feeds, FeedsOnce, IsFit, IsLeftAt, IsNumbered, IsThen, Resumes, ResumesOnce, Rests, asks_in, clock_in, kept_in, waits_in}
-use Rattle.ft_orb.specs.EnginesNow.{FeedsNow, ResumesNow}
+use Rattle.ft_orb.specs.Engines.{Awaited, EndsClosed, EndsLast, EndsShort, IsFit, IsLeftAt, IsNumbered, asks_in, clock_in, ending_in, kept_in, waits_in}
 use Rattle.ft_objects.specs.Families.{families_offer}
-use Rattle.ft_orb.specs.History.{Close, Event, Gone, Lost, Opened, Piece, completed, line}
-use Rattle.ft_orb.specs.Outputs.{is_going}
-use Rattle.ft_orb.specs.Owners.{Owner}
-use Rattle.ft_orb.specs.Requests.{Call}
-use Rattle.ft_orb.specs.Standing.{note_of, note_of_opening}
 use Rattle.ft_orb.specs.Bounds.{ComesDue, fed_in, piece_in}
+use Rattle.ft_orb.specs.Parked.{going_in}
 use Rattle.ft_orb.specs.Parking.{parked_in, waits_on}
 use Rattle.lemonrudder.specs.declared.object.Object.{Object}
 use Rattle.lemonrudder.specs.declared.object.Object.TheVariants.{Server}
@@ -27,7 +23,7 @@ use Rattle.lemonrudder.specs.declared.refusal.Refusal.TheVariants as refusal
 use Rattle.lemonrudder.specs.declared.serving.Serving.{Serving}
 use Rattle.lemonrudder.specs.declared.serving.questions.Found.{Found}
 use Rattle.lemonrudder.specs.declared.terms.Setup.{Setup}
-use Rattle.lemonrudder.specs.Connected.{AreOthers, AreSame, OnlyDue, is_there, owed_in}
+use Rattle.lemonrudder.specs.Connected.{AreAsNoted, AreOthers, AreOthersNoted, AreSame, Notes, OnlyDue, StartsLeaving, is_there, leaves_in, owed_in, why_in}
 use Rattle.lemonrudder.specs.Late.{ClosesLate, ForgetsLate, IsClosedLate, LosesLate, OpensLate, TakesLate, TicksLate}
 use Rattle.lemonrudder.specs.Refusals.{filled, refusal_of_connecting, refusal_of_serving}
 use Rattle.lemonrudder.specs.Tickets.{called_by, waiting_by}
@@ -43,6 +39,14 @@ IsIdle s = waits_in s.engine ≡ None
 -- the octets that are due on a connection
 abbrev pub owed_on : Serving → ℕ → List ℕ
 owed_on s c = owed_in s.connections c
+
+-- whether it is leaving: goodbye is said on it once nobody waits there for an outcome
+abbrev pub leaves_on : Serving → ℕ → Bool
+leaves_on s c = leaves_in s.connections c
+
+-- why it ended, where that is noted
+abbrev pub why_on : Serving → ℕ → Option Ending
+why_on s c = why_in s.connections c
 
 -- as many are due on it as may be
 abbrev pub IsFull : ℕ → Serving → Type 0
@@ -60,13 +64,21 @@ WhereIdle s t r Does = (IsSome (waits_in s.engine) → IsRefused refusal.Asking 
 abbrev pub KeepsDue : Serving → Serving → Type 0
 KeepsDue s t = AreSame s.connections t.connections × (t.ready ≡ s.ready)
 
+-- what is noted of each connection stays
+abbrev pub KeepsNotes : Serving → Serving → Type 0
+KeepsNotes s t = AreAsNoted s.connections t.connections
+
+-- where the engine says by now why c ended that is noted, and nothing else
+abbrev pub NotesWhy : ℕ → Serving → Serving → Type 0
+NotesWhy c s t = Notes c (ending_in t.engine c) s.connections t.connections
+
 -- .. but for what is due on c
 abbrev pub ChangesDue : ℕ → Serving → Serving → Type 0
 ChangesDue c s t = OnlyDue c s.connections t.connections × (t.ready ≡ s.ready)
 
 -- nothing has changed
 abbrev pub IsSame : Serving → Serving → Type 0
-IsSame s t = (t.engine ≡ s.engine) × (t.setup ≡ s.setup) × KeepsDue s t
+IsSame s t = (t.engine ≡ s.engine) × (t.setup ≡ s.setup) × KeepsDue s t × KeepsNotes s t
 
 -- what is on offer stays, and so do the limits, and whether there was a connection
 abbrev pub KeepsCatalogue : Serving → Serving → Type 0
@@ -111,39 +123,42 @@ Opens c (Err e) s t = AreSame s.connections t.connections
 abbrev pub OnConnect : ℕ → Serving → Serving → Result ℕ Refusal → Type 0
 OnConnect c s t r = WhereIdle s t r (((r ≡ Err refusal.Memory) × IsSame s t)
     ⊎ ((o : Result (Unit {0}) ConnectError) × (r ≡ done_of 0 refusal_of_connecting o) × IsIdle t × Opens c o s t × (t.ready ≡ s.ready) × (t.engine.offering ≡ s.engine.offering) × (t.setup ≡ opened_with o s.setup) × KeepsTickets s t
-    × ((owner : Owner) (calls : List Call) (past : List Event) → Rests families_offer owner calls s.engine past → IsThen families_offer owner calls past (Opened c) (note_of_opening o) t.engine [])
-    × OpensLate c s t o))
+    × OpensLate c s t o × KeepsNotes s t))
 
--- a connection is forgotten, with what was due on it, and is named no more
+-- a connection is forgotten, with what was due on it and noted of it, and is named no more
 abbrev pub Forgotten : ℕ → Serving → Serving → Type 0
-Forgotten c s t = (is_there t.connections c ≡ false) × AreOthers c s.connections t.connections × (is_named t c ≡ false) × ((q : ℕ) → (c == q) ≡ false → is_named t q ≡ is_named s q)
+Forgotten c s t = (is_there t.connections c ≡ false) × AreOthers c s.connections t.connections × (is_named t c ≡ false) × ((q : ℕ) → (c == q) ≡ false → is_named t q ≡ is_named s q) × AreOthersNoted c s.connections t.connections
 
 -- a connection is lost: not while a request waits
 abbrev pub OnLost : ℕ → Serving → Serving → Result ℕ Refusal → Type 0
-OnLost c s t r = WhereIdle s t r ((r ≡ Ok 0) × IsIdle t × Forgotten c s t × KeepsCatalogue s t × KeepsTickets s t
-    × ((owner : Owner) (calls : List Call) (past : List Event) → Rests families_offer owner calls s.engine past → Rests families_offer owner calls t.engine (Lost c ∷ past))
-    × LosesLate c s t)
+OnLost c s t r = WhereIdle s t r ((r ≡ Ok 0) × IsIdle t × Forgotten c s t × KeepsCatalogue s t × KeepsTickets s t × LosesLate c s t)
 
--- the engine closes a connection, and what it writes is due after what was
+-- a connection ended by it, if it went on: it was closed, or memory was short
+abbrev pub EndsBy : ℕ → Serving → Serving → Result (Unit {0}) ServeError → Type 0
+EndsBy c s t (Ok x) = EndsClosed s.engine t.engine c (going_in s.engine.links c)
+EndsBy c s t (Err e) = EndsShort s.engine t.engine c e
+
+-- goodbye is said on a connection on which nobody waits, and what the engine writes is due after what was
 abbrev pub Closes : ℕ → Serving → Serving → Result (Unit {0}) ServeError → Type 0
-Closes c s t o = (owner : Owner) (calls : List Call) (past : List Event) → Rests families_offer owner calls s.engine past
-    → (written : List ℕ) × (owed_on t c ≡ owed_on s c ++ written) × IsThen families_offer owner calls past (Close c) (note_of o) t.engine written
+Closes c s t o = IsIdle t × ChangesDue c s t × KeepsCatalogue s t × KeepsTickets s t × ClosesLate c s t o × EndsBy c s t o × NotesWhy c s t
 
--- goodbye is said on a connection: not while a request waits, nor while somebody waits on the connection for the outcome of a request
--- that is parked
+abbrev pub IsClosed : ℕ → Serving → Serving → Result ℕ Refusal → Type 0
+IsClosed c s t r = (o : Result (Unit {0}) ServeError) × (r ≡ done_of 0 refusal_of_serving o) × Closes c s t o
+
+-- where somebody waits there for the outcome of a request that is parked, it is leaving: goodbye is said once nobody does (`Parts`)
+abbrev pub IsLeft : ℕ → Serving → Serving → Type 0
+IsLeft c s t = (t.engine ≡ s.engine) × (t.setup ≡ s.setup) × (t.ready ≡ s.ready) × StartsLeaving c s.connections t.connections
+
+-- goodbye is said on a connection, or it is reported how many wait there, and it is leaving: not while a request waits
 abbrev pub OnFarewell : ℕ → Serving → Serving → Result ℕ Refusal → Type 0
 OnFarewell c s t r = WhereIdle s t r ((is_there s.connections c ≡ false → IsRefused refusal.Connection s t r)
     × (is_there s.connections c ≡ true
-    → (0 < waits_on s.engine c → (r ≡ Err refusal.Parks) × IsSame s t)
-    × (waits_on s.engine c ≡ 0 → (o : Result (Unit {0}) ServeError) × (r ≡ done_of 0 refusal_of_serving o) × IsIdle t × ChangesDue c s t × KeepsCatalogue s t × KeepsTickets s t × Closes c s t o × ClosesLate c s t o)))
+    → (0 < waits_on s.engine c → (r ≡ Ok (waits_on s.engine c)) × IsLeft c s t)
+    × (waits_on s.engine c ≡ 0 → IsClosed c s t r)))
 
 -- it is reported whether what comes on a connection has no meaning
 abbrev pub OnIsClosed : ℕ → Serving → Serving → Result ℕ Refusal → Type 0
-OnIsClosed c s t r = (t ≡ s) × (closed : Bool) × (r ≡ Ok (from_bool closed))
-    × ((owner : Owner) (calls : List Call) (past : List Event) → Rests families_offer owner calls s.engine past → closed ≡ not (is_going owner.limits (line past c)))
-    × ((owner : Owner) (calls : List Call) (past : List Event) (moment : ℕ) (octets written : List ℕ) (w : Awaited) → Asks families_offer owner calls s.engine past moment octets written w
-    → closed ≡ not (is_going owner.limits (line (Piece w.connection moment octets ∷ past) c)))
-    × IsClosedLate c closed s
+OnIsClosed c s t r = (t ≡ s) × (closed : Bool) × (r ≡ Ok (from_bool closed)) × IsClosedLate c closed s
 
 -- how many octets are taken, of so many
 abbrev pub taken_of : ℕ → Result Taken ServeError → Result ℕ Refusal
@@ -157,49 +172,36 @@ taken_of size (Err e) = Err (refusal_of_serving e)
 abbrev pub Takes : (c moment : ℕ) → List ℕ → Serving → Serving → Result Taken ServeError → Type 0
 Takes c moment octets s t f =
     IsLeftAt c (length (piece_in octets f)) (fed_in f) (waits_in t.engine) × IsNumbered (asks_in s.engine) (asks_in t.engine) (fed_in f) (waits_in t.engine) × IsFit (families_offer t.engine.offering.catalogue) (waits_in t.engine)
-    × ComesDue s.setup.terms.due (length (owed_on t c)) (length octets) f
-    × ((owner : Owner) (calls : List Call) (past : List Event) → Rests families_offer owner calls s.engine past
-    → Feeds families_offer owner calls past c moment (piece_in octets f) (fed_in f) t.engine (owed_on s c) (owed_on t c)
-    × FeedsOnce families_offer owner calls past c moment (piece_in octets f) (fed_in f) (waits_in t.engine) (owed_on s c) (owed_on t c)
-    × FeedsNow owner calls past c moment (piece_in octets f) (fed_in f) (waits_in t.engine) (owed_on s c) (owed_on t c))
+    × ComesDue s.setup.terms.due (length (owed_on t c)) (length octets) f × IfErr f (λ e. EndsShort s.engine t.engine c e) × TakesLate c moment octets s t f
 
 abbrev pub Serves : (c moment : ℕ) → List ℕ → Serving → Serving → Result ℕ Refusal → Type 0
-Serves c moment octets s t r = (f : Result Taken ServeError) × (r ≡ taken_of (length octets) f) × ChangesDue c s t × KeepsCatalogue s t × Takes c moment octets s t f × TakesLate c moment octets s t f
+Serves c moment octets s t r = (f : Result Taken ServeError) × (r ≡ taken_of (length octets) f) × ChangesDue c s t × KeepsCatalogue s t × Takes c moment octets s t f × NotesWhy c s t
 
 -- a moment has come, and nothing else
 abbrev pub Ticks : ℕ → Serving → Serving → Type 0
-Ticks moment s t = IsIdle t × KeepsDue s t × KeepsCatalogue s t × KeepsTickets s t
+Ticks moment s t = IsIdle t × KeepsDue s t × KeepsNotes s t × KeepsCatalogue s t × KeepsTickets s t
     × (clock_in t.engine ≡ max (clock_in s.engine) moment) × (kept_in t.engine ≡ unexpired (clock_in t.engine) (kept_in s.engine))
-    × ((owner : Owner) (calls : List Call) (past : List Event) (c : ℕ) → Rests families_offer owner calls s.engine past → line past c ≡ Gone → IsThen families_offer owner calls past (Piece c moment []) Refused t.engine [])
     × TicksLate moment s t
 
--- Octets of a connection are fed: not while a request waits. Where there is no such connection only the moment counts, and where as many
--- octets are due on it as may be none are taken, and nothing has changed.
+-- Octets of a connection are fed: not while a request waits. Where there is no such connection only the moment counts. Those of one
+-- that is leaving mean nothing: all are taken, and only the moment counts too. Where as many octets are due on it as may be none are
+-- taken, and nothing has changed.
 abbrev pub OnFeed : (c moment : ℕ) → List ℕ → Serving → Serving → Result ℕ Refusal → Type 0
 OnFeed c moment octets s t r = WhereIdle s t r ((is_there s.connections c ≡ false → (r ≡ Err refusal.Connection) × Ticks moment s t)
-    × (is_there s.connections c ≡ true → (IsFull c s → (r ≡ Ok 0) × (t ≡ s)) × (¬ (IsFull c s) → Serves c moment octets s t r)))
+    × (is_there s.connections c ≡ true → (leaves_on s c ≡ true → (r ≡ Ok (length octets)) × Ticks moment s t)
+    × (leaves_on s c ≡ false → (IsFull c s → (r ≡ Ok 0) × (t ≡ s)) × (¬ (IsFull c s) → Serves c moment octets s t r))))
 
--- n requests and locates of its piece were answered before the request that waits
-abbrev pub AreBefore : ℕ → Serving → Type 0
-AreBefore n s = (owner : Owner) (calls : List Call) (past : List Event) (moment : ℕ) (octets written : List ℕ) (w : Awaited) → Asks families_offer owner calls s.engine past moment octets written w
-    → n + 1 ≡ length (completed owner.limits past (Piece w.connection moment octets))
-
--- the request that waits does not count, and its connection is lost
-abbrev pub Forgets : ℕ → Serving → Serving → Type 0
-Forgets n s t = (owner : Owner) (calls : List Call) (past : List Event) (moment : ℕ) (octets written : List ℕ) (w : Awaited) → Asks families_offer owner calls s.engine past moment octets written w
-    → Resumes families_offer owner calls past w.connection moment octets written (Memory n n) t.engine [] []
-    × ResumesOnce families_offer owner calls past w.connection moment octets written (Memory n n) [] []
-    × ResumesNow owner calls past w.connection moment octets written (Memory n n) [] []
-
--- the request of a ticket is given up
+-- the request of a ticket is given up: n requests and locates of its piece were answered before, it does not count, and its connection
+-- has ended
 abbrev pub OnGiveUp : ℕ → Serving → Serving → Result ℕ Refusal → Type 0
-OnGiveUp ticket s t r = ByTicket ticket s t r (λ w. (r ≡ Ok 0) × IsIdle t × KeepsDue s t × KeepsCatalogue s t × KeepsTickets s t × (n : ℕ) × AreBefore n s × Forgets n s t × ForgetsLate n s t)
+OnGiveUp ticket s t r = ByTicket ticket s t r (λ w. (r ≡ Ok 0) × IsIdle t × KeepsDue s t × KeepsCatalogue s t × KeepsTickets s t × (n : ℕ) × ForgetsLate n s t
+    × EndsLast t.engine w.connection GivenUp × NotesWhy w.connection s t)
 
 -- octets that are due on a connection are copied to the front of a room, as many as it has, and are due no longer
 abbrev pub OnOutput : ℕ → (room new : List ℕ) → Serving → Serving → Result ℕ Refusal → Type 0
 OnOutput c room new s t r =
     let n = min (length (owed_on s c)) (length room) in
-    (r ≡ Ok n) × (new ≡ filled (owed_on s c) room) × (owed_on t c ≡ drop n (owed_on s c)) × ChangesDue c s t × (t.engine ≡ s.engine) × (t.setup ≡ s.setup)
+    (r ≡ Ok n) × (new ≡ filled (owed_on s c) room) × (owed_on t c ≡ drop n (owed_on s c)) × ChangesDue c s t × KeepsNotes s t × (t.engine ≡ s.engine) × (t.setup ≡ s.setup)
 
 -- there is no server in a slot
 abbrev pub HasNoServer : Option Object → Type 0

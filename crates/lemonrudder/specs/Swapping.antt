@@ -10,7 +10,7 @@ use Rattle.lemonrudder.specs.declared.refusal.Refusal.{Refusal}
 use Rattle.lemonrudder.specs.declared.refusal.Refusal.TheVariants as refusal
 use Rattle.lemonrudder.specs.declared.serving.Serving.{Serving}
 use Rattle.lemonrudder.specs.Late.{WhereStays}
-use Rattle.lemonrudder.specs.Serves.{IsIdle, IsRefused, KeepsDue, KeepsTickets}
+use Rattle.lemonrudder.specs.Serves.{IsIdle, IsRefused, KeepsDue, KeepsNotes, KeepsTickets}
 
 -- the objects and families of one go to the other; the bound of the ids of clients, and exceptions that were declared, stay
 abbrev pub Exchanges : (s t : Serving) → (k l : Cataloguing) → Type 0
@@ -18,7 +18,7 @@ Exchanges s t k l = (t.engine.offering ≡ record s.engine.offering { catalogue 
 
 -- what is kept, parked and counted stays
 abbrev pub KeepsRest : Serving → Serving → Type 0
-KeepsRest s t = IsIdle t × (t.setup ≡ s.setup) × KeepsDue s t × KeepsTickets s t × AreParked s.engine t.engine × ((c q : ℕ) → others_under t.engine c q ≡ others_under s.engine c q) × (counts_in t.engine ≡ counts_in s.engine) × AreEndings s.engine t.engine
+KeepsRest s t = IsIdle t × (t.setup ≡ s.setup) × KeepsDue s t × KeepsNotes s t × KeepsTickets s t × AreParked s.engine t.engine × ((c q : ℕ) → others_under t.engine c q ≡ others_under s.engine c q) × (counts_in t.engine ≡ counts_in s.engine) × AreEndings s.engine t.engine
 
 -- what comes from now on is served by what is on offer now
 abbrev pub ChangesLate : Serving → Serving → Type 0

@@ -121,7 +121,7 @@ locate_request v o id key = message v kind.LocateRequest o (behind_header v kind
 
 -- a LocateReply without a body
 abbrev pub locate_reply : Version → Order → (id status : ℕ) → Writing
-locate_reply v o id status = checked (status < locate_statuses v) refusal.Range (message v kind.LocateReply o (behind_header v kind.LocateReply o (locate_reply_fields id status) no_values))
+locate_reply v o id status = checked (status < locate_statuses v) refusal.Range (Fits (message_octets v kind.LocateReply o (behind_header v kind.LocateReply o (locate_reply_fields id status) no_values)))
 
 -- a message that has nothing after its header
 abbrev pub bare : MessageKind → Writing

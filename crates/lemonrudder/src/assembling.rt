@@ -76,7 +76,7 @@ pub struct Assembling {
 }
 
 /// The number of a fault.
-fn number_of_fault(fault: &StreamFault) -> u64
+pub fn number_of_fault(fault: &StreamFault) -> u64
     ensures { result ≡ fault_number fault.now }
 {
     match fault {
@@ -180,7 +180,8 @@ impl Assembling {
 
     /// Copies a part of that message.
     pub fn part(&self, part: u32, room: &mut [u8]) -> Result<u64, Refusal>
-        ensures { OnPart part room.old room.new self.now self.now result }
+        ensures copied { OnPart part room.old room.new self.now self.now result }
+        ensures refused { OnErr result (room.new ≡ room.old) }
     {
         let message = self.assembler.message().ok_or(Refusal::None)?;
         let octets = part_of(&message.content, part).ok_or(Refusal::None)?;

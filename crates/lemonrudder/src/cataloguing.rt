@@ -102,7 +102,7 @@ impl Cataloguing {
         Ok(0)
     }
 
-    /// Adds an operation with the exceptions that were declared.
+    /// Adds an operation of types, with the exceptions that were declared. Its bodies are octets, which the types judge.
     pub fn operation(
         &mut self,
         key: &[u8],
@@ -118,7 +118,9 @@ impl Cataloguing {
             results: types_of(self.alloc, results)?,
             raises,
         };
-        self.families.objects.add_operation(key, name, signature)?;
+        self.families
+            .objects
+            .add_checked_operation(key, name, signature)?;
         Ok(0)
     }
 

@@ -1,10 +1,11 @@
-//! The connections of a server, and what is due on each.
+//! The connections of a server, what is due on each, and what is noted of it.
 
 ghost use Rattle.std.specs.Prelude.{◌≡◌, [], ℕ, false, true, drop, length, min, OnErr, OnOk, IfErr};
 ghost use Rattle.lemonrudder.specs.Dues.{IsPlaced, owed};
 
 use crate::due::Due;
 use crate::refusal::Refusal;
+use ft_orb::Ending;
 use std::alloc::Global;
 use std::collections::BTreeMap;
 use std::mem;
@@ -13,6 +14,10 @@ use std::mem;
 #[derive(Drop)]
 pub struct Connection {
     due: Due,
+    /// Goodbye is said on it once nobody waits there for an outcome.
+    leaving: bool,
+    /// Why it ended.
+    why: Option<Ending>,
     ghost placed: { IsPlaced due },
 }
 
@@ -24,7 +29,7 @@ pub struct Connections {
 }
 
 impl Connections {
-    ghost use Rattle.lemonrudder.specs.Connected.{AreOthers, AreSame, OnlyDue, how_many, is_there, owed_in};
+    ghost use Rattle.lemonrudder.specs.Connected.{AreAsNoted, AreOthers, AreOthersNoted, AreSame, Notes, OnlyDue, StartsLeaving, how_many, is_there, leaves_in, owed_in, why_in};
     ghost use Rattle.lemonrudder.specs.Refusals.{filled};
 
     /// None.
@@ -59,21 +64,25 @@ impl Connections {
         ensures stays { is_there self.old connection ≡ true → AreSame self.old self.new }
         ensures err { OnErr result (AreSame self.old self.new) }
         ensures why { IfErr result (λ e. e ≡ Refusal.Memory) }
+        ensures noted { AreAsNoted self.old self.new }
     {
         if self.has(connection) {
             return Ok(());
         }
         let opened = Connection {
             due: Due::new(Vec::new(self.alloc)),
+            leaving: false,
+            why: None,
         };
         self.entries.insert(connection, opened)?;
         Ok(())
     }
 
-    /// Forgets one, and what is due on it.
+    /// Forgets one, what is due on it, and what is noted of it.
     pub fn remove(&mut self, connection: u64)
         ensures gone { is_there self.new connection ≡ false }
         ensures others { AreOthers connection self.old self.new }
+        ensures noted { AreOthersNoted connection self.old self.new }
     {
         self.entries.remove(&connection);
     }
@@ -83,6 +92,8 @@ impl Connections {
         ensures gone { was ≡ false → is_there self.new connection ≡ false }
         ensures stays { was ≡ true → AreSame self.old self.new }
         ensures others { AreOthers connection self.old self.new }
+        ensures noted { AreOthersNoted connection self.old self.new }
+        ensures noted_stays { was ≡ true → AreAsNoted self.old self.new }
     {
         if !was {
             self.remove(connection);
@@ -104,6 +115,7 @@ impl Connections {
         ensures owed { owed result ≡ owed_in self.old connection }
         ensures placed { IsPlaced result }
         ensures only { OnlyDue connection self.old self.new }
+        ensures noted { AreAsNoted self.old self.new }
     {
         let none = Due::new(Vec::new(self.alloc));
         match self.entries.get_mut(&connection) {
@@ -116,6 +128,7 @@ impl Connections {
     pub fn put(&mut self, connection: u64, due: Due)
         ensures owed { is_there self.old connection ≡ true → owed_in self.new connection ≡ owed due }
         ensures only { OnlyDue connection self.old self.new }
+        ensures noted { AreAsNoted self.old self.new }
     {
         if let Some(found) = self.entries.get_mut(&connection) {
             found.due = due.placed();
@@ -128,10 +141,53 @@ impl Connections {
         ensures room { room.new ≡ filled (owed_in self.old connection) room.old }
         ensures owed { owed_in self.new connection ≡ drop result (owed_in self.old connection) }
         ensures only { OnlyDue connection self.old self.new }
+        ensures noted { AreAsNoted self.old self.new }
     {
         match self.entries.get_mut(&connection) {
             Some(found) => found.due.output(room),
             None => 0,
+        }
+    }
+
+    /// Whether goodbye is said on one once nobody waits there for an outcome.
+    pub fn is_leaving(&self, connection: u64) -> bool
+        ensures { result ≡ leaves_in self.now connection }
+    {
+        match self.entries.get(&connection) {
+            Some(found) => found.leaving,
+            None => false,
+        }
+    }
+
+    /// One is leaving, if there is one.
+    pub fn leave(&mut self, connection: u64)
+        ensures { StartsLeaving connection self.old self.new }
+    {
+        if let Some(found) = self.entries.get_mut(&connection) {
+            found.leaving = true;
+        }
+    }
+
+    /// Why one ended.
+    pub fn why(&self, connection: u64) -> Option<Ending>
+        ensures { result ≡ why_in self.now connection }
+    {
+        match self.entries.get(&connection) {
+            Some(found) => found.why,
+            None => None,
+        }
+    }
+
+    /// Notes why one ended, if it did and there is one.
+    pub fn note(&mut self, connection: u64, why: Option<Ending>)
+        ensures same { AreSame self.old self.new }
+        ensures noted { Notes connection why self.old self.new }
+    {
+        if why.is_none() {
+            return;
+        }
+        if let Some(found) = self.entries.get_mut(&connection) {
+            found.why = why;
         }
     }
 }

@@ -9,10 +9,12 @@ mod catalogue;
 mod cdr;
 mod client;
 mod ior;
+mod leaving;
 mod looking;
 mod message;
 mod parking;
 mod raw_call;
+mod replying;
 mod server;
 
 use crate::slot::Slot;

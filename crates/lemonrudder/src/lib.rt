@@ -4,11 +4,8 @@
 //! error number (`refusal`).
 #![tactic(auto)]
 
-mod assembled;
 mod assembling;
-mod called;
 mod calling;
-mod catalogued;
 mod cataloguing;
 mod cdr;
 mod connections;
@@ -18,17 +15,15 @@ mod exports;
 mod handle;
 mod layout;
 mod lent;
-mod looked;
 mod messages;
 mod named;
 mod object;
 mod opened;
-mod referred;
+mod paired;
 mod referring;
 mod refusal;
 mod request;
 mod seed;
-mod served;
 mod serving;
 mod slot;
 mod terms;

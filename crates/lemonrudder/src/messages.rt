@@ -13,8 +13,8 @@ use crate::named::{order_of, version_of, wish_of};
 use crate::refusal::{Refusal, fitted};
 use cdr_core::{Order, Val, has_no_nul};
 use giop_core::{
-    ReplyWish, Target, Version, WriteError, write_cancel, write_close, write_error, write_ft,
-    write_locate_reply, write_locate_request, write_raw_reply, write_request,
+    ReplyWish, Target, Version, WriteError, cancel_octets, close_octets, error_octets,
+    locate_reply_octets, write_ft, write_locate_request, write_raw_reply, write_request,
 };
 use std::alloc::Global;
 
@@ -158,12 +158,10 @@ impl Manner {
     }
 
     /// Writes a CancelRequest.
-    pub fn cancel(self, alloc: Global, request_id: u32, room: &mut [u8]) -> Result<u64, Refusal>
+    pub fn cancel(self, request_id: u32, room: &mut [u8]) -> Result<u64, Refusal>
         ensures { cancel self.version self.order request_id room.old room.new result }
     {
-        let mut out = Vec::new(alloc);
-        write_cancel(self.version, self.order, request_id, &mut out)?;
-        fitted(&out, room)
+        fitted(&cancel_octets(self.version, self.order, request_id), room)
     }
 
     /// Writes a LocateRequest.
@@ -183,21 +181,14 @@ impl Manner {
     }
 
     /// Writes a LocateReply without a body.
-    pub fn locate_reply(
-        self,
-        alloc: Global,
-        request_id: u32,
-        status: u32,
-        room: &mut [u8],
-    ) -> Result<u64, Refusal>
+    pub fn locate_reply(self, request_id: u32, status: u32, room: &mut [u8]) -> Result<u64, Refusal>
         ensures { locate_reply self.version self.order request_id status room.old room.new result }
     {
         if !self.version.has_locate_status(status) {
             return Err(Refusal::Range);
         }
-        let mut out = Vec::new(alloc);
-        write_locate_reply(self.version, self.order, request_id, status, &[], &mut out)?;
-        fitted(&out, room)
+        let octets = locate_reply_octets(self.version, self.order, request_id, status);
+        fitted(&octets, room)
     }
 }
 
@@ -213,21 +204,17 @@ fn values_of_octets(alloc: Global, octets: &[u8]) -> Result<Vec<Val>, Refusal>
 }
 
 /// Writes CloseConnection.
-pub fn close(alloc: Global, room: &mut [u8]) -> Result<u64, Refusal>
+pub fn close(room: &mut [u8]) -> Result<u64, Refusal>
     ensures { bare kind.CloseConnection room.old room.new result }
 {
-    let mut out = Vec::new(alloc);
-    write_close(&mut out)?;
-    fitted(&out, room)
+    fitted(&close_octets(), room)
 }
 
 /// Writes MessageError.
-pub fn error(alloc: Global, room: &mut [u8]) -> Result<u64, Refusal>
+pub fn error(room: &mut [u8]) -> Result<u64, Refusal>
     ensures { bare kind.MessageError room.old room.new result }
 {
-    let mut out = Vec::new(alloc);
-    write_error(&mut out)?;
-    fitted(&out, room)
+    fitted(&error_octets(), room)
 }
 
 /// Writes the data of an FT_REQUEST context.

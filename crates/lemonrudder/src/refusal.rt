@@ -2,10 +2,12 @@
 
 ghost use Rattle.std.specs.Prelude.{◌≡◌, ◌<◌, ◌≤◌, length};
 ghost use Rattle.lemonrudder.specs.declared.refusal.Refusal.TheVariants.{Memory};
-ghost use Rattle.lemonrudder.specs.Refusals.{error_number, filled, number_in, refusal_of_calling, refusal_of_connecting, refusal_of_fault, refusal_of_offering, refusal_of_raw_calling, refusal_of_raw_recalling, refusal_of_reading, refusal_of_recalling, refusal_of_redirecting, refusal_of_referring, refusal_of_serving, refusal_of_writing, signed_of};
+ghost use Rattle.lemonrudder.specs.Refusals.{error_number, filled, number_in, refusal_of_calling, refusal_of_connecting, refusal_of_fault, refusal_of_offering, refusal_of_raw_calling, refusal_of_raw_recalling, refusal_of_raw_redirecting, refusal_of_reading, refusal_of_recalling, refusal_of_redirecting, refusal_of_referring, refusal_of_serving, refusal_of_writing, signed_of};
 
 use cdr_core::{CdrError, Fault, Kind};
-use ft_client::{CallError, RawCallError, RawRecallError, RecallError, RedirectError};
+use ft_client::{
+    CallError, RawCallError, RawRecallError, RawRedirectError, RecallError, RedirectError,
+};
 use ft_objects::InterfacesError;
 use ft_orb::{ConnectError, ServeError};
 use giop_core::WriteError;
@@ -282,6 +284,18 @@ impl From<RedirectError> for Refusal {
             RedirectError::NotForwarded => Refusal::Forward,
             RedirectError::TooLong => Refusal::Long,
             RedirectError::Memory => Refusal::Memory,
+        }
+    }
+}
+
+impl From<RawRedirectError> for Refusal {
+    ghost from_gives = { λ e r. r ≡ refusal_of_raw_redirecting e };
+
+    fn from(error: RawRedirectError) -> Refusal {
+        match error {
+            RawRedirectError::FtRequest => Refusal::Value,
+            RawRedirectError::Unled(error) => Refusal::from(error),
+            RawRedirectError::Misplaced => Refusal::Place,
         }
     }
 }

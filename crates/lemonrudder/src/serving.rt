@@ -3,21 +3,25 @@
 ghost use Rattle.std.specs.Prelude.{◌≡◌, ◌↔◌, IsTrue, true};
 ghost use Rattle.lemonrudder.specs.Connected.{is_asked_there};
 
+mod beforehand;
 mod declining;
+mod leaving;
 mod looking;
 mod offering;
 mod outcomes;
 mod parking;
 mod questions;
+mod replying;
 mod settling;
 mod taken;
 
 use crate::connections::Connections;
-use crate::refusal::Refusal;
+use crate::refusal::{Refusal, count_of};
 use crate::terms::{Setup, Terms};
 use ft_log::Retention;
 use ft_objects::Families;
-use ft_orb::{CloseError, Engine};
+use ft_orb::Engine;
+pub use replying::Said;
 use std::alloc::Global;
 use std::collections::BTreeSet;
 use std::hash::RandomState;
@@ -62,6 +66,7 @@ impl Serving {
             setup: Setup {
                 terms,
                 opened: false,
+                said: None,
             },
             connections: Connections::new(alloc),
             ready: BTreeSet::new(alloc),
@@ -102,7 +107,7 @@ impl Serving {
         Ok(0)
     }
 
-    /// Says goodbye on a connection, on which nobody waits for what is parked.
+    /// Says goodbye on a connection; or answers how many wait there for what is parked, and it is leaving.
     pub fn farewell(&mut self, connection: u64) -> Result<u64, Refusal>
         ensures { OnFarewell connection self.old self.new result }
     {
@@ -112,15 +117,12 @@ impl Serving {
         if !self.connections.has(connection) {
             return Err(Refusal::Connection);
         }
-        let mut due = self.connections.take(connection);
-        let closed = self.engine.close(connection, &mut due.octets);
-        self.connections.put(connection, due);
-        match closed {
-            Ok(()) => Ok(0),
-            Err(CloseError::NoConnection) => Err(Refusal::Connection),
-            Err(CloseError::Memory) => Err(Refusal::Lost),
-            Err(CloseError::Waits) => Err(Refusal::Parks),
+        let waits = self.engine.waits_on(connection);
+        if waits > 0 {
+            self.connections.leave(connection);
+            return Ok(waits as u64);
         }
+        self.close(connection)
     }
 
     /// Whether what comes on a connection has no meaning.
@@ -140,6 +142,10 @@ impl Serving {
         if !self.connections.has(connection) {
             self.engine.tick(moment);
             return Err(Refusal::Connection);
+        }
+        if self.connections.is_leaving(connection) {
+            self.engine.tick(moment);
+            return Ok(count_of(octets));
         }
         if self.is_full(connection) {
             return Ok(0);
@@ -166,6 +172,8 @@ impl Serving {
             .engine
             .feed_within(connection, moment, octets, most, &mut due.octets);
         self.connections.put(connection, due);
+        let why = self.engine.ending(connection);
+        self.connections.note(connection, why);
         taken_of(octets, fed)
     }
 
@@ -173,8 +181,12 @@ impl Serving {
     pub fn give_up(&mut self, ticket: u64) -> Result<u64, Refusal>
         ensures { OnGiveUp ticket self.old self.new result }
     {
-        let number = self.asked_by(ticket)?.number;
+        let asked = self.asked_by(ticket)?;
+        let number = asked.number;
+        let connection = asked.connection;
         self.engine.give_up(number);
+        let why = self.engine.ending(connection);
+        self.connections.note(connection, why);
         Ok(0)
     }
 

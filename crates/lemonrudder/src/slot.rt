@@ -4,6 +4,7 @@ ghost use Rattle.std.specs.Prelude.{◌≡◌, ◌==◌, not};
 ghost use Rattle.lemonrudder.specs.Ownership.{is_held};
 
 mod contents;
+mod doors;
 
 use crate::handle::Handle;
 

@@ -6,6 +6,7 @@ ghost use Rattle.lemonrudder.specs.Limited.{limited, set_to, usual};
 use crate::named::limits_of;
 use crate::refusal::Refusal;
 use crate::seed::Seed;
+use crate::serving::Said;
 use ft_orb::Places;
 use giop_frames::Limits;
 
@@ -23,11 +24,12 @@ pub struct Terms {
     pub seed: Seed,
 }
 
-/// The terms of a server, and whether it has had a connection.
-#[derive(Clone, Copy)]
+/// What the owner of a server says of it: its terms, whether it has had a connection, and service contexts of replies to come.
+#[derive(Drop)]
 pub struct Setup {
     pub terms: Terms,
     pub opened: bool,
+    pub said: Option<Said>,
 }
 
 /// A number that is to have 32 bits.

@@ -1,15 +1,15 @@
 //! Types that are spelled by codes, and values that are octets of them.
 
-ghost use Rattle.std.specs.Prelude.{◌≡◌, ◌<◌, ◌≤◌, ◌⊎◌, [], ◌∷◌, IfErr, IfOk, IfSome, IsNone};
+ghost use Rattle.std.specs.Prelude.{◌≡◌, ◌↔◌, ◌<◌, ◌≤◌, ◌⊎◌, [], ◌∷◌, IfErr, IfOk, IfSome, IsNone, IsTrue};
 ghost use Rattle.cdr_core.specs.Fitting.{AreValid};
 ghost use Rattle.cdr_core.specs.Spelling.{SpellsMembers};
 ghost use Rattle.cdr_core.specs.Value.{Values};
 ghost use Rattle.cdr_core.specs.View.{form_of, forms_of, values_of};
 ghost use Rattle.lemonrudder.specs.Codes.{AreTypes, IsCode};
-ghost use Rattle.lemonrudder.specs.Spelled.{AreThose, IsWhyUnread};
+ghost use Rattle.lemonrudder.specs.Spelled.{AreThose, AreValues, IsWhyUnread};
 
 use crate::refusal::Refusal;
-use cdr_core::{Order, Ty, Val, are_valid, read_list};
+use cdr_core::{Order, Ty, Val, are_valid, pass_list, read_list};
 use std::alloc::Global;
 
 /// A code that is followed by a number.
@@ -170,4 +170,15 @@ pub fn values_of(
         return Err(Refusal::Value);
     }
     Ok(values)
+}
+
+/// Whether octets are values of types, all of them, aligned from place 0: no value is made.
+pub fn are_values(types: &[Ty], order: Order, octets: &[u8]) -> bool
+    requires valid { AreValid (forms_of types.now) }
+    ensures { IsTrue result ↔ AreValues (forms_of types.now) order octets.now }
+{
+    match pass_list(types, order, 0, octets) {
+        Ok(passed) => passed == octets.len(),
+        Err(_) => false,
+    }
 }

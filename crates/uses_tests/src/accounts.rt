@@ -11,6 +11,7 @@ enum Target {
     NoOperation,
     Typed,
     Raw,
+    Checked,
 }
 
 /// Keys and operations, and what they lead to.
@@ -30,6 +31,7 @@ fn led_to(offered: &Families, key: &[u8], operation: &[u8]) -> Target {
         Lookup::NoOperation => Target::NoOperation,
         Lookup::Operation(_) => Target::Typed,
         Lookup::Raw => Target::Raw,
+        Lookup::Checked(_) => Target::Checked,
     }
 }
 

@@ -188,6 +188,14 @@ pub const LR_FAULT_BODY: u32 = 11;
 pub const LR_FAULT_MIXED_ORDER: u32 = 12;
 pub const LR_FAULT_MEMORY: u32 = 13;
 
+pub const LR_WHY_OPEN: u32 = 0;
+pub const LR_WHY_DIRECTION: u32 = 32;
+pub const LR_WHY_GOODBYE: u32 = 33;
+pub const LR_WHY_ERROR: u32 = 34;
+pub const LR_WHY_FAREWELL: u32 = 35;
+pub const LR_WHY_GIVEN_UP: u32 = 36;
+pub const LR_WHY_MEMORY: u32 = 37;
+
 pub const LR_MSG_REQUEST: u32 = 0;
 pub const LR_MSG_REPLY: u32 = 1;
 pub const LR_MSG_CANCEL_REQUEST: u32 = 2;
@@ -340,6 +348,7 @@ unsafe extern "C" {
     pub safe fn lr_server_lost(server: &mut lr_slot, connection: u64) -> i64;
     pub safe fn lr_server_farewell(server: &mut lr_slot, connection: u64) -> i64;
     pub safe fn lr_server_is_closed(server: &mut lr_slot, connection: u64) -> i64;
+    pub safe fn lr_server_why(server: &mut lr_slot, connection: u64) -> i64;
     pub fn lr_server_feed(
         server: &mut lr_slot,
         connection: u64,
@@ -371,6 +380,31 @@ unsafe extern "C" {
         ticket: u64,
         order: u32,
         results: *const c_void,
+        size: usize,
+    ) -> i64;
+    pub fn lr_server_can_answer(
+        server: &mut lr_slot,
+        ticket: u64,
+        order: u32,
+        results: *const c_void,
+        size: usize,
+    ) -> i64;
+    pub fn lr_server_exception(
+        server: &mut lr_slot,
+        ticket: u64,
+        id: *const c_void,
+        id_size: usize,
+        order: u32,
+        members: *const c_void,
+        size: usize,
+        room: *mut c_void,
+        room_size: usize,
+    ) -> i64;
+    pub fn lr_server_reply_contexts(
+        server: &mut lr_slot,
+        ticket: u64,
+        order: u32,
+        contexts: *const c_void,
         size: usize,
     ) -> i64;
     pub fn lr_server_raise(
@@ -508,6 +542,20 @@ unsafe extern "C" {
         order: u32,
         arguments: *const c_void,
         arguments_size: usize,
+    ) -> i64;
+    pub fn lr_client_redirect_raw(
+        client: &mut lr_slot,
+        call: i64,
+        wish: u32,
+        key: *const c_void,
+        key_size: usize,
+        operation: *const c_void,
+        operation_size: usize,
+        order: u32,
+        contexts: *const c_void,
+        contexts_size: usize,
+        body: *const c_void,
+        body_size: usize,
     ) -> i64;
     pub fn lr_client_output(client: &mut lr_slot, room: *mut c_void, size: usize) -> i64;
     pub safe fn lr_assembler_open(

@@ -16,6 +16,7 @@ use Rattle.ft_objects.specs.declared.object.Offered.TheVariants as offered
 offered-valid : (o : Option Offered) → IsValidInterface (offered_in o)
 offered-valid None = tt
 offered-valid (Some (offered.Typed t)) = t.valid
+offered-valid (Some (offered.Checked t)) = t.valid
 offered-valid (Some offered.Raw) = tt
 
 at-valid : (o : Option Object) (name : List ℕ) → IsValidInterface (offered_at o name)
@@ -26,6 +27,7 @@ at-valid (Some (object.Named o)) name = offered-valid (at o.by_name name)
 offered-some : (o : Option Offered) → offered_in o ≡ no_object → ⊥
 offered-some None h = cc
 offered-some (Some (offered.Typed t)) h = cc
+offered-some (Some (offered.Checked t)) h = cc
 offered-some (Some offered.Raw) h = cc
 
 at-absent : (o : Option Object) → (is_some o ≡ false) ↔ ((name : List ℕ) → offered_at o name ≡ no_object)

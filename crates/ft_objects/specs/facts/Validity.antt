@@ -7,7 +7,7 @@ use mathlib.Core.HLevel.{×_prop}
 use Rattle.cdr_core.specs.Fitting.{AreCases, AreValid, InRange, IsDiscriminator, IsLabel, IsNoLabel, IsValid}
 use Rattle.cdr_core.specs.Form as form
 use Rattle.cdr_core.specs.Form.{Form, Forms, Cases, Number}
-use Rattle.ft_objects.specs.Interfaces.{Interface, IsValidInterface, no_object, no_operation, operation, raw_operation}
+use Rattle.ft_objects.specs.Interfaces.{AreValidTypes, Interface, IsValidInterface, Types, checked_operation, no_object, no_operation, operation, raw_operation}
 
 triple_prop : {A B C : Type 0} → IsProp A → IsProp B → IsProp C → IsProp (A × B × C)
 triple_prop a b c x y = λ i. (a x.0 y.0 i, b x.1 y.1 i, c x.2 y.2 i)
@@ -64,8 +64,12 @@ mutual
   cases_prop d (form.otherwise t) = valid_prop t
   cases_prop d (form.labelled k t cs) = four_prop (label_prop d k) (no_label_prop k cs) (valid_prop t) (cases_prop d cs)
 
+types_prop : (t : Types) → IsProp (AreValidTypes t)
+types_prop t = triple_prop (are_valid_prop t.arguments) (are_valid_prop t.results) (AllByRecursion-prop (λ r. AreValid r.1) (λ r. are_valid_prop r.1) t.raises)
+
 pub valid_interface_prop : (i : Interface) → IsProp (IsValidInterface i)
-valid_interface_prop (operation t) = triple_prop (are_valid_prop t.arguments) (are_valid_prop t.results) (AllByRecursion-prop (λ r. AreValid r.1) (λ r. are_valid_prop r.1) t.raises)
+valid_interface_prop (operation t) = types_prop t
+valid_interface_prop (checked_operation t) = types_prop t
 valid_interface_prop no_object = hlevel props
 valid_interface_prop no_operation = hlevel props
 valid_interface_prop raw_operation = hlevel props

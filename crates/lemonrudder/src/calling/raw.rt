@@ -1,8 +1,10 @@
-//! Raw calls of a client: new ones, and those of before.
+//! Raw calls of a client: new ones, those of before, and those that are led elsewhere.
 
-ghost use Rattle.std.specs.Prelude.{◌≡◌, map};
+ghost use Rattle.std.specs.Prelude.{◌≡◌, ◌↔◌, IsTrue, Some, map};
 ghost use Rattle.giop_core.specs.Items.{item_at};
+ghost use Rattle.giop_core.specs.declared.request.ReplyWish.TheVariants.{None};
 ghost use Rattle.ft_client.specs.Calling.{call_raw};
+ghost use Rattle.lemonrudder.specs.Naming.{wish_named};
 ghost use Rattle.lemonrudder.specs.RawCalls.{IsRawManner, raw_asked, raw_in, raw_question_of};
 
 use crate::calling::Calling;
@@ -22,6 +24,13 @@ pub struct RawQuestion<'q> {
     pub order: u32,
     pub contexts: &'q [u8],
     pub body: &'q [u8],
+}
+
+/// Whether a number names the wish for no reply.
+fn wishes_none(wish: u32) -> bool
+    ensures { IsTrue result ↔ wish_named wish ≡ Some None }
+{
+    matches!(wish_of(wish), Ok(ReplyWish::None))
 }
 
 /// How a raw call is asked.
@@ -81,7 +90,7 @@ impl RawManner {
 }
 
 impl Calling {
-    ghost use Rattle.lemonrudder.specs.RawCalls.{OnCallRaw, OnRecallRaw};
+    ghost use Rattle.lemonrudder.specs.RawCalls.{OnCallRaw, OnRecallRaw, OnRedirectRaw};
 
     /// Takes a raw call, and answers its number.
     pub fn call_raw(
@@ -115,6 +124,23 @@ impl Calling {
         let call = manner.call(question, &contexts, expiration);
         self.client
             .recall_raw(number, now, &call, &mut self.due.octets)?;
+        Ok(0)
+    }
+
+    /// Asks under another object key, by a raw call, for a call that is led elsewhere.
+    pub fn redirect_raw(&mut self, call: i64, question: &RawQuestion<'_>) -> Result<u64, Refusal>
+        ensures { OnRedirectRaw call (raw_question_of question.now) self.old self.new result }
+    {
+        let Ok(id) = i32::try_from(call) else {
+            return Err(Refusal::Range);
+        };
+        if wishes_none(question.wish) {
+            return Err(Refusal::Range);
+        }
+        let manner = RawManner::new(self.client.version(), question)?;
+        let contexts = contexts_of(self.alloc, manner.order, question.contexts)?;
+        let asked = manner.call(question, &contexts, 0);
+        self.client.redirect_raw(id, &asked)?;
         Ok(0)
     }
 }

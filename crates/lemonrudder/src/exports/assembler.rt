@@ -1,4 +1,5 @@
 //! The messages of a stream.
+#![tactic(auto, using(crate::proofs::Doors::by_assembler))]
 
 ghost use Rattle.std.specs.Prelude.{◌≡◌, ◌<ℤ◌, ◌≤ℤ◌, pos};
 ghost use Rattle.lemonrudder.specs.Answers.{OnAssembler};
@@ -7,11 +8,9 @@ ghost use Rattle.lemonrudder.specs.Lends.{OnContext, OnMessage, OnPart};
 ghost use Rattle.lemonrudder.specs.Opening.{OpensMade};
 ghost use Rattle.lemonrudder.specs.Slots.{held_in};
 
-use crate::assembled;
 use crate::assembling::Assembling;
 use crate::object::Object;
 use crate::opened::open;
-use crate::refusal::Refusal;
 use crate::slot::Slot;
 use std::alloc::Global;
 
@@ -36,12 +35,7 @@ pub extern "C" fn lr_assembler_open(
 pub extern "C" fn lr_assembler_feed(alloc: Global, slot: &mut Slot, octets: &[u8]) -> i64
     ensures { OnAssembler (OnFeed octets.now) (held_in slot.old) (held_in slot.new) result }
 {
-    let Some(mut object) = slot.take(alloc) else {
-        return Refusal::Empty.number();
-    };
-    let answer = assembled::feed(&mut object, octets);
-    slot.put(object);
-    answer
+    slot.assembler(alloc, &mut |assembler| assembler.feed(octets))
 }
 
 /// The first fault of the stream.
@@ -49,12 +43,7 @@ pub extern "C" fn lr_assembler_feed(alloc: Global, slot: &mut Slot, octets: &[u8
 pub extern "C" fn lr_assembler_fault(alloc: Global, slot: &mut Slot) -> i64
     ensures { OnAssembler OnFault (held_in slot.old) (held_in slot.new) result }
 {
-    let Some(object) = slot.take(alloc) else {
-        return Refusal::Empty.number();
-    };
-    let answer = assembled::fault(&object);
-    slot.put(object);
-    answer
+    slot.assembler(alloc, &mut |assembler| Ok(assembler.fault()))
 }
 
 /// Says what the message is that the last feed completed: `lr_message`.
@@ -63,12 +52,7 @@ pub extern "C" fn lr_assembler_message(alloc: Global, slot: &mut Slot, room: &mu
     ensures told { OnAssembler (OnMessage room.old room.new) (held_in slot.old) (held_in slot.new) result }
     ensures none { result ≤ℤ pos 0 → room.new ≡ room.old }
 {
-    let Some(object) = slot.take(alloc) else {
-        return Refusal::Empty.number();
-    };
-    let answer = assembled::message(&object, room);
-    slot.put(object);
-    answer
+    slot.assembler(alloc, &mut |assembler| Ok(assembler.message(room)))
 }
 
 /// Copies a part of that message.
@@ -82,12 +66,7 @@ pub extern "C" fn lr_assembler_part(
     ensures copied { OnAssembler (OnPart part room.old room.new) (held_in slot.old) (held_in slot.new) result }
     ensures refused { result <ℤ pos 0 → room.new ≡ room.old }
 {
-    let Some(object) = slot.take(alloc) else {
-        return Refusal::Empty.number();
-    };
-    let answer = assembled::part(&object, part, room);
-    slot.put(object);
-    answer
+    slot.assembler(alloc, &mut |assembler| assembler.part(part, room))
 }
 
 /// Copies a service context of that message, and gives its id.
@@ -102,10 +81,5 @@ pub extern "C" fn lr_assembler_context(
     ensures copied { OnAssembler (OnContext index id.old id.new room.old room.new) (held_in slot.old) (held_in slot.new) result }
     ensures refused { result <ℤ pos 0 → (id.new ≡ id.old) × (room.new ≡ room.old) }
 {
-    let Some(object) = slot.take(alloc) else {
-        return Refusal::Empty.number();
-    };
-    let answer = assembled::context(&object, index, id, room);
-    slot.put(object);
-    answer
+    slot.assembler(alloc, &mut |assembler| assembler.context(index, id, room))
 }

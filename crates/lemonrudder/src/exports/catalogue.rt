@@ -1,4 +1,5 @@
 //! Which objects a server has.
+#![tactic(auto, using(crate::proofs::Doors::by_catalogue))]
 
 ghost use Rattle.lemonrudder.specs.Answers.{OnCatalogue};
 ghost use Rattle.lemonrudder.specs.Declares.{OnException, OnOperation};
@@ -8,10 +9,10 @@ ghost use Rattle.lemonrudder.specs.Identifies.{OnRepositoryIds};
 ghost use Rattle.lemonrudder.specs.Pairs.{OnCatalogues};
 ghost use Rattle.lemonrudder.specs.Slots.{held_in};
 
-use crate::catalogued;
 use crate::cataloguing::Cataloguing;
 use crate::object::Object;
 use crate::opened::open;
+use crate::paired;
 use crate::refusal::Refusal;
 use crate::slot::Slot;
 use std::alloc::Global;
@@ -29,12 +30,7 @@ pub extern "C" fn lr_catalogue_open(alloc: Global, slot: &mut Slot) -> i64
 pub extern "C" fn lr_catalogue_object(alloc: Global, slot: &mut Slot, key: &[u8]) -> i64
     ensures { OnCatalogue (OnObject key.now) (held_in slot.old) (held_in slot.new) result }
 {
-    let Some(mut object) = slot.take(alloc) else {
-        return Refusal::Empty.number();
-    };
-    let answer = catalogued::object(&mut object, key);
-    slot.put(object);
-    answer
+    slot.catalogue(alloc, &mut |catalogue| catalogue.object(key))
 }
 
 /// Adds an object whose every operation is raw.
@@ -42,12 +38,7 @@ pub extern "C" fn lr_catalogue_object(alloc: Global, slot: &mut Slot, key: &[u8]
 pub extern "C" fn lr_catalogue_raw_object(alloc: Global, slot: &mut Slot, key: &[u8]) -> i64
     ensures { OnCatalogue (OnRawObject key.now) (held_in slot.old) (held_in slot.new) result }
 {
-    let Some(mut object) = slot.take(alloc) else {
-        return Refusal::Empty.number();
-    };
-    let answer = catalogued::raw_object(&mut object, key);
-    slot.put(object);
-    answer
+    slot.catalogue(alloc, &mut |catalogue| catalogue.raw_object(key))
 }
 
 /// Declares an exception of the operation that is added next.
@@ -60,12 +51,7 @@ pub extern "C" fn lr_catalogue_exception(
 ) -> i64
     ensures { OnCatalogue (OnException id.now members.now) (held_in slot.old) (held_in slot.new) result }
 {
-    let Some(mut object) = slot.take(alloc) else {
-        return Refusal::Empty.number();
-    };
-    let answer = catalogued::exception(&mut object, id, members);
-    slot.put(object);
-    answer
+    slot.catalogue(alloc, &mut |catalogue| catalogue.exception(id, members))
 }
 
 /// Adds an operation with the exceptions that were declared.
@@ -80,12 +66,10 @@ pub extern "C" fn lr_catalogue_operation(
 ) -> i64
     ensures { OnCatalogue (OnOperation key.now name.now arguments.now results.now) (held_in slot.old) (held_in slot.new) result }
 {
-    let Some(mut object) = slot.take(alloc) else {
-        return Refusal::Empty.number();
-    };
-    let answer = catalogued::operation(&mut object, key, name, arguments, results);
-    slot.put(object);
-    answer
+    slot.catalogue(
+        alloc,
+        &mut |catalogue| catalogue.operation(key, name, arguments, results),
+    )
 }
 
 /// Adds an operation that is raw.
@@ -98,12 +82,7 @@ pub extern "C" fn lr_catalogue_raw_operation(
 ) -> i64
     ensures { OnCatalogue (OnRawOperation key.now name.now) (held_in slot.old) (held_in slot.new) result }
 {
-    let Some(mut object) = slot.take(alloc) else {
-        return Refusal::Empty.number();
-    };
-    let answer = catalogued::raw_operation(&mut object, key, name);
-    slot.put(object);
-    answer
+    slot.catalogue(alloc, &mut |catalogue| catalogue.raw_operation(key, name))
 }
 
 /// Names the repository ids of an object.
@@ -116,12 +95,7 @@ pub extern "C" fn lr_catalogue_repository_ids(
 ) -> i64
     ensures { OnCatalogue (OnRepositoryIds key.now ids.now) (held_in slot.old) (held_in slot.new) result }
 {
-    let Some(mut object) = slot.take(alloc) else {
-        return Refusal::Empty.number();
-    };
-    let answer = catalogued::repository_ids(&mut object, key, ids);
-    slot.put(object);
-    answer
+    slot.catalogue(alloc, &mut |catalogue| catalogue.repository_ids(key, ids))
 }
 
 /// Adds an object whose every operation is raw, for each key that leads to no other.
@@ -129,12 +103,7 @@ pub extern "C" fn lr_catalogue_repository_ids(
 pub extern "C" fn lr_catalogue_default(alloc: Global, slot: &mut Slot) -> i64
     ensures { OnCatalogue OnDefault (held_in slot.old) (held_in slot.new) result }
 {
-    let Some(mut object) = slot.take(alloc) else {
-        return Refusal::Empty.number();
-    };
-    let answer = catalogued::default(&mut object);
-    slot.put(object);
-    answer
+    slot.catalogue(alloc, &mut |catalogue| catalogue.default())
 }
 
 /// Takes the objects of a catalogue that is in a slot as families.
@@ -144,7 +113,7 @@ fn joined(alloc: Global, object: &mut Object, families: &mut Slot) -> i64
     let Some(mut other) = families.take(alloc) else {
         return Refusal::Empty.number();
     };
-    let answer = catalogued::families(object, &mut other);
+    let answer = paired::families(object, &mut other);
     families.put(other);
     answer
 }
@@ -167,10 +136,5 @@ pub extern "C" fn lr_catalogue_families(alloc: Global, slot: &mut Slot, families
 pub extern "C" fn lr_catalogue_remove(alloc: Global, slot: &mut Slot, key: &[u8]) -> i64
     ensures { OnCatalogue (OnRemove key.now) (held_in slot.old) (held_in slot.new) result }
 {
-    let Some(mut object) = slot.take(alloc) else {
-        return Refusal::Empty.number();
-    };
-    let answer = catalogued::remove(&mut object, key);
-    slot.put(object);
-    answer
+    slot.catalogue(alloc, &mut |catalogue| catalogue.remove(key))
 }

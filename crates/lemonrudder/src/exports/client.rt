@@ -1,4 +1,5 @@
 //! A client that sends its calls again.
+#![tactic(auto, using(crate::proofs::Doors::by_client))]
 
 ghost use Rattle.std.specs.Prelude.{◌≡◌, ◌<ℤ◌, ◌≤ℤ◌, pos};
 ghost use Rattle.lemonrudder.specs.Answers.{OnClient};
@@ -9,11 +10,9 @@ ghost use Rattle.lemonrudder.specs.Resuming.{OnForwarded, OnRecall, OnRedirect, 
 ghost use Rattle.lemonrudder.specs.Adjusts.{OnSet};
 ghost use Rattle.lemonrudder.specs.Slots.{held_in};
 
-use crate::called;
 use crate::calling::{Calling, Question};
 use crate::object::Object;
 use crate::opened::open;
-use crate::refusal::Refusal;
 use crate::slot::Slot;
 use std::alloc::Global;
 
@@ -33,12 +32,7 @@ pub extern "C" fn lr_client_open(alloc: Global, slot: &mut Slot, id: &[u8]) -> i
 pub extern "C" fn lr_client_connected(alloc: Global, slot: &mut Slot, now: u64) -> i64
     ensures { OnClient (OnConnected now) (held_in slot.old) (held_in slot.new) result }
 {
-    let Some(mut object) = slot.take(alloc) else {
-        return Refusal::Empty.number();
-    };
-    let answer = called::connected(&mut object, now);
-    slot.put(object);
-    answer
+    slot.client(alloc, &mut |client| client.connected(now))
 }
 
 /// The connection is lost.
@@ -46,12 +40,7 @@ pub extern "C" fn lr_client_connected(alloc: Global, slot: &mut Slot, now: u64) 
 pub extern "C" fn lr_client_lost(alloc: Global, slot: &mut Slot) -> i64
     ensures { OnClient OnLost (held_in slot.old) (held_in slot.new) result }
 {
-    let Some(mut object) = slot.take(alloc) else {
-        return Refusal::Empty.number();
-    };
-    let answer = called::lost(&mut object);
-    slot.put(object);
-    answer
+    slot.client(alloc, &mut |client| Ok(client.lost()))
 }
 
 /// Whether the client is connected.
@@ -59,12 +48,7 @@ pub extern "C" fn lr_client_lost(alloc: Global, slot: &mut Slot) -> i64
 pub extern "C" fn lr_client_is_connected(alloc: Global, slot: &mut Slot) -> i64
     ensures { OnClient OnIsConnected (held_in slot.old) (held_in slot.new) result }
 {
-    let Some(object) = slot.take(alloc) else {
-        return Refusal::Empty.number();
-    };
-    let answer = called::is_connected(&object);
-    slot.put(object);
-    answer
+    slot.client(alloc, &mut |client| Ok(client.is_connected()))
 }
 
 /// Sets what a client keeps, or what it is made with.
@@ -72,12 +56,7 @@ pub extern "C" fn lr_client_is_connected(alloc: Global, slot: &mut Slot) -> i64
 pub extern "C" fn lr_client_set(alloc: Global, slot: &mut Slot, what: u32, value: u64) -> i64
     ensures { OnClient (OnSet what value) (held_in slot.old) (held_in slot.new) result }
 {
-    let Some(mut object) = slot.take(alloc) else {
-        return Refusal::Empty.number();
-    };
-    let answer = called::set(&mut object, what, value);
-    slot.put(object);
-    answer
+    slot.client(alloc, &mut |client| client.set(what, value))
 }
 
 /// Calls an operation of an object, and answers the number of the call.
@@ -102,12 +81,7 @@ pub extern "C" fn lr_client_call(
         order,
         arguments,
     };
-    let Some(mut object) = slot.take(alloc) else {
-        return Refusal::Empty.number();
-    };
-    let answer = called::call(&mut object, now, expiration, &asked);
-    slot.put(object);
-    answer
+    slot.client(alloc, &mut |client| client.call(now, expiration, &asked))
 }
 
 /// Takes a call of before up again, under its own number.
@@ -133,12 +107,10 @@ pub extern "C" fn lr_client_recall(
         order,
         arguments,
     };
-    let Some(mut object) = slot.take(alloc) else {
-        return Refusal::Empty.number();
-    };
-    let answer = called::recall(&mut object, call, now, expiration, &asked);
-    slot.put(object);
-    answer
+    slot.client(
+        alloc,
+        &mut |client| client.recall(call, now, expiration, &asked),
+    )
 }
 
 /// Numbers up to this one were given to calls of before.
@@ -146,12 +118,7 @@ pub extern "C" fn lr_client_recall(
 pub extern "C" fn lr_client_skip_to(alloc: Global, slot: &mut Slot, call: i64) -> i64
     ensures { OnClient (OnSkip call) (held_in slot.old) (held_in slot.new) result }
 {
-    let Some(mut object) = slot.take(alloc) else {
-        return Refusal::Empty.number();
-    };
-    let answer = called::skip_to(&mut object, call);
-    slot.put(object);
-    answer
+    slot.client(alloc, &mut |client| client.skip_to(call))
 }
 
 /// Sends what is pending and was not sent on this connection.
@@ -159,12 +126,7 @@ pub extern "C" fn lr_client_skip_to(alloc: Global, slot: &mut Slot, call: i64) -
 pub extern "C" fn lr_client_resend(alloc: Global, slot: &mut Slot, now: u64) -> i64
     ensures { OnClient (OnResend now) (held_in slot.old) (held_in slot.new) result }
 {
-    let Some(mut object) = slot.take(alloc) else {
-        return Refusal::Empty.number();
-    };
-    let answer = called::resend(&mut object, now);
-    slot.put(object);
-    answer
+    slot.client(alloc, &mut |client| client.resend(now))
 }
 
 /// Says the first call that is led elsewhere, `lr_completion`, and copies the reference to which.
@@ -179,12 +141,7 @@ pub extern "C" fn lr_client_forwarded(
     ensures none { result ≤ℤ pos 0 → completion.new ≡ completion.old }
     ensures uncopied { result ≤ℤ pos 0 → room.new ≡ room.old }
 {
-    let Some(object) = slot.take(alloc) else {
-        return Refusal::Empty.number();
-    };
-    let answer = called::forwarded(&object, completion, room);
-    slot.put(object);
-    answer
+    slot.client(alloc, &mut |client| Ok(client.forwarded(completion, room)))
 }
 
 /// Asks under another object key for a call that is led elsewhere.
@@ -208,12 +165,7 @@ pub extern "C" fn lr_client_redirect(
         order,
         arguments,
     };
-    let Some(mut object) = slot.take(alloc) else {
-        return Refusal::Empty.number();
-    };
-    let answer = called::redirect(&mut object, call, &asked);
-    slot.put(object);
-    answer
+    slot.client(alloc, &mut |client| client.redirect(call, &asked))
 }
 
 /// Cancels a call.
@@ -221,12 +173,7 @@ pub extern "C" fn lr_client_redirect(
 pub extern "C" fn lr_client_cancel(alloc: Global, slot: &mut Slot, call: i64) -> i64
     ensures { OnClient (OnCancel call) (held_in slot.old) (held_in slot.new) result }
 {
-    let Some(mut object) = slot.take(alloc) else {
-        return Refusal::Empty.number();
-    };
-    let answer = called::cancel(&mut object, call);
-    slot.put(object);
-    answer
+    slot.client(alloc, &mut |client| client.cancel(call))
 }
 
 /// A moment has come.
@@ -234,12 +181,7 @@ pub extern "C" fn lr_client_cancel(alloc: Global, slot: &mut Slot, call: i64) ->
 pub extern "C" fn lr_client_tick(alloc: Global, slot: &mut Slot, now: u64) -> i64
     ensures { OnClient (OnTick now) (held_in slot.old) (held_in slot.new) result }
 {
-    let Some(mut object) = slot.take(alloc) else {
-        return Refusal::Empty.number();
-    };
-    let answer = called::tick(&mut object, now);
-    slot.put(object);
-    answer
+    slot.client(alloc, &mut |client| Ok(client.tick(now)))
 }
 
 /// Takes octets that came on the connection.
@@ -247,12 +189,7 @@ pub extern "C" fn lr_client_tick(alloc: Global, slot: &mut Slot, now: u64) -> i6
 pub extern "C" fn lr_client_feed(alloc: Global, slot: &mut Slot, octets: &[u8]) -> i64
     ensures { OnClient (OnFeed octets.now) (held_in slot.old) (held_in slot.new) result }
 {
-    let Some(mut object) = slot.take(alloc) else {
-        return Refusal::Empty.number();
-    };
-    let answer = called::feed(&mut object, octets);
-    slot.put(object);
-    answer
+    slot.client(alloc, &mut |client| client.feed(octets))
 }
 
 /// Takes the next completion: `lr_completion`.
@@ -261,12 +198,7 @@ pub extern "C" fn lr_client_completed(alloc: Global, slot: &mut Slot, room: &mut
     ensures taken { OnClient (OnCompleted room.old room.new) (held_in slot.old) (held_in slot.new) result }
     ensures none { result ≤ℤ pos 0 → room.new ≡ room.old }
 {
-    let Some(mut object) = slot.take(alloc) else {
-        return Refusal::Empty.number();
-    };
-    let answer = called::completed(&mut object, room);
-    slot.put(object);
-    answer
+    slot.client(alloc, &mut |client| Ok(client.completed(room)))
 }
 
 /// Copies the body of the completion that was taken last.
@@ -275,12 +207,7 @@ pub extern "C" fn lr_client_body(alloc: Global, slot: &mut Slot, room: &mut [u8]
     ensures copied { OnClient (OnBody room.old room.new) (held_in slot.old) (held_in slot.new) result }
     ensures refused { result <ℤ pos 0 → room.new ≡ room.old }
 {
-    let Some(object) = slot.take(alloc) else {
-        return Refusal::Empty.number();
-    };
-    let answer = called::body(&object, room);
-    slot.put(object);
-    answer
+    slot.client(alloc, &mut |client| client.body(room))
 }
 
 /// Moves octets that are due into a room.
@@ -289,10 +216,5 @@ pub extern "C" fn lr_client_output(alloc: Global, slot: &mut Slot, room: &mut [u
     ensures moved { OnClient (OnOutput room.old room.new) (held_in slot.old) (held_in slot.new) result }
     ensures refused { result <ℤ pos 0 → room.new ≡ room.old }
 {
-    let Some(mut object) = slot.take(alloc) else {
-        return Refusal::Empty.number();
-    };
-    let answer = called::output(&mut object, room);
-    slot.put(object);
-    answer
+    slot.client(alloc, &mut |client| Ok(client.output(room)))
 }

@@ -1,4 +1,5 @@
 //! References to objects.
+#![tactic(auto, using(crate::proofs::Doors::by_reference))]
 
 ghost use Rattle.std.specs.Prelude.{◌≡◌, ◌<ℤ◌, pos};
 ghost use Rattle.lemonrudder.specs.Answers.{OnReference};
@@ -10,9 +11,7 @@ ghost use Rattle.lemonrudder.specs.Slots.{held_in};
 
 use crate::object::Object;
 use crate::opened::open;
-use crate::referred;
 use crate::referring::{Address, Referring};
-use crate::refusal::Refusal;
 use crate::slot::Slot;
 use std::alloc::Global;
 
@@ -58,12 +57,7 @@ pub extern "C" fn lr_ior_print(alloc: Global, slot: &mut Slot, room: &mut [u8]) 
     ensures printed { OnReference (OnPrint room.old room.new) (held_in slot.old) (held_in slot.new) result }
     ensures refused { result <ℤ pos 0 → room.new ≡ room.old }
 {
-    let Some(object) = slot.take(alloc) else {
-        return Refusal::Empty.number();
-    };
-    let answer = referred::print(&object, room);
-    slot.put(object);
-    answer
+    slot.reference(alloc, &mut |reference| reference.print(room))
 }
 
 /// Copies the repository id of its type.
@@ -72,12 +66,7 @@ pub extern "C" fn lr_ior_type_id(alloc: Global, slot: &mut Slot, room: &mut [u8]
     ensures copied { OnReference (OnTypeId room.old room.new) (held_in slot.old) (held_in slot.new) result }
     ensures refused { result <ℤ pos 0 → room.new ≡ room.old }
 {
-    let Some(object) = slot.take(alloc) else {
-        return Refusal::Empty.number();
-    };
-    let answer = referred::type_id(&object, room);
-    slot.put(object);
-    answer
+    slot.reference(alloc, &mut |reference| Ok(reference.type_id(room)))
 }
 
 /// How many profiles it has.
@@ -85,12 +74,7 @@ pub extern "C" fn lr_ior_type_id(alloc: Global, slot: &mut Slot, room: &mut [u8]
 pub extern "C" fn lr_ior_profiles(alloc: Global, slot: &mut Slot) -> i64
     ensures { OnReference OnProfiles (held_in slot.old) (held_in slot.new) result }
 {
-    let Some(object) = slot.take(alloc) else {
-        return Refusal::Empty.number();
-    };
-    let answer = referred::profiles(&object);
-    slot.put(object);
-    answer
+    slot.reference(alloc, &mut |reference| Ok(reference.profiles()))
 }
 
 /// Says what a profile has: `lr_profile`.
@@ -99,12 +83,7 @@ pub extern "C" fn lr_ior_profile(alloc: Global, slot: &mut Slot, index: u32, roo
     ensures told { OnReference (OnProfile index room.old room.new) (held_in slot.old) (held_in slot.new) result }
     ensures refused { result <ℤ pos 0 → room.new ≡ room.old }
 {
-    let Some(object) = slot.take(alloc) else {
-        return Refusal::Empty.number();
-    };
-    let answer = referred::profile(&object, index, room);
-    slot.put(object);
-    answer
+    slot.reference(alloc, &mut |reference| reference.profile(index, room))
 }
 
 /// Copies a part of a profile.
@@ -119,12 +98,7 @@ pub extern "C" fn lr_ior_part(
     ensures copied { OnReference (OnPart index part room.old room.new) (held_in slot.old) (held_in slot.new) result }
     ensures refused { result <ℤ pos 0 → room.new ≡ room.old }
 {
-    let Some(object) = slot.take(alloc) else {
-        return Refusal::Empty.number();
-    };
-    let answer = referred::part(&object, index, part, room);
-    slot.put(object);
-    answer
+    slot.reference(alloc, &mut |reference| reference.part(index, part, room))
 }
 
 /// Copies a tagged component of a profile, and gives its tag.
@@ -140,10 +114,8 @@ pub extern "C" fn lr_ior_component(
     ensures copied { OnReference (OnComponent index component tag.old tag.new room.old room.new) (held_in slot.old) (held_in slot.new) result }
     ensures refused { result <ℤ pos 0 → (tag.new ≡ tag.old) × (room.new ≡ room.old) }
 {
-    let Some(object) = slot.take(alloc) else {
-        return Refusal::Empty.number();
-    };
-    let answer = referred::component(&object, index, component, tag, room);
-    slot.put(object);
-    answer
+    slot.reference(
+        alloc,
+        &mut |reference| reference.component(index, component, tag, room),
+    )
 }

@@ -60,17 +60,11 @@ pub extern "C" fn lr_write_reply(
 
 /// Writes a CancelRequest.
 #[unsafe(no_mangle)]
-pub extern "C" fn lr_write_cancel(
-    alloc: Global,
-    room: &mut [u8],
-    version: u32,
-    order: u32,
-    request_id: u32,
-) -> i64
+pub extern "C" fn lr_write_cancel(room: &mut [u8], version: u32, order: u32, request_id: u32) -> i64
     ensures { Writes (manner version order (λ v o. cancel v o request_id)) room.old room.new result }
 {
     match Manner::new(version, order) {
-        Ok(manner) => number_of(manner.cancel(alloc, request_id, room)),
+        Ok(manner) => number_of(manner.cancel(request_id, room)),
         Err(refusal) => refusal.number(),
     }
 }
@@ -96,7 +90,6 @@ pub extern "C" fn lr_write_locate_request(
 /// Writes a LocateReply without a body.
 #[unsafe(no_mangle)]
 pub extern "C" fn lr_write_locate_reply(
-    alloc: Global,
     room: &mut [u8],
     version: u32,
     order: u32,
@@ -106,25 +99,25 @@ pub extern "C" fn lr_write_locate_reply(
     ensures { Writes (manner version order (λ v o. locate_reply v o request_id status)) room.old room.new result }
 {
     match Manner::new(version, order) {
-        Ok(manner) => number_of(manner.locate_reply(alloc, request_id, status, room)),
+        Ok(manner) => number_of(manner.locate_reply(request_id, status, room)),
         Err(refusal) => refusal.number(),
     }
 }
 
 /// Writes CloseConnection.
 #[unsafe(no_mangle)]
-pub extern "C" fn lr_write_close(alloc: Global, room: &mut [u8]) -> i64
+pub extern "C" fn lr_write_close(room: &mut [u8]) -> i64
     ensures { Writes (bare kind.CloseConnection) room.old room.new result }
 {
-    number_of(close(alloc, room))
+    number_of(close(room))
 }
 
 /// Writes MessageError.
 #[unsafe(no_mangle)]
-pub extern "C" fn lr_write_error(alloc: Global, room: &mut [u8]) -> i64
+pub extern "C" fn lr_write_error(room: &mut [u8]) -> i64
     ensures { Writes (bare kind.MessageError) room.old room.new result }
 {
-    number_of(error(alloc, room))
+    number_of(error(room))
 }
 
 /// Writes the data of an FT_REQUEST context.

@@ -1,4 +1,5 @@
 //! Requests that are parked, and the connections on which octets came due by their outcomes.
+#![tactic(auto, using(crate::proofs::Doors::by_server))]
 
 ghost use Rattle.std.specs.Prelude.{◌≡◌};
 ghost use Rattle.lemonrudder.specs.Answers.{OnServer};
@@ -6,8 +7,6 @@ ghost use Rattle.lemonrudder.specs.Parks.{OnNextDue, OnPark, OnParked, OnParkedO
 ghost use Rattle.lemonrudder.specs.Serves.{HasNoServer};
 ghost use Rattle.lemonrudder.specs.Slots.{held_in};
 
-use crate::refusal::Refusal;
-use crate::served;
 use crate::slot::Slot;
 use std::alloc::Global;
 
@@ -16,12 +15,7 @@ use std::alloc::Global;
 pub extern "C" fn lr_server_park(alloc: Global, slot: &mut Slot, ticket: u64) -> i64
     ensures { OnServer (OnPark ticket) (held_in slot.old) (held_in slot.new) result }
 {
-    let Some(mut object) = slot.take(alloc) else {
-        return Refusal::Empty.number();
-    };
-    let answer = served::park(&mut object, ticket);
-    slot.put(object);
-    answer
+    slot.server(alloc, &mut |server| server.park(ticket))
 }
 
 /// How many requests are parked.
@@ -29,12 +23,7 @@ pub extern "C" fn lr_server_park(alloc: Global, slot: &mut Slot, ticket: u64) ->
 pub extern "C" fn lr_server_parked(alloc: Global, slot: &mut Slot) -> i64
     ensures { OnServer OnParked (held_in slot.old) (held_in slot.new) result }
 {
-    let Some(object) = slot.take(alloc) else {
-        return Refusal::Empty.number();
-    };
-    let answer = served::parked(&object);
-    slot.put(object);
-    answer
+    slot.server(alloc, &mut |server| Ok(server.parked()))
 }
 
 /// How many of the parked requests came on a connection.
@@ -42,12 +31,7 @@ pub extern "C" fn lr_server_parked(alloc: Global, slot: &mut Slot) -> i64
 pub extern "C" fn lr_server_parked_of(alloc: Global, slot: &mut Slot, connection: u64) -> i64
     ensures { OnServer (OnParkedOf connection) (held_in slot.old) (held_in slot.new) result }
 {
-    let Some(object) = slot.take(alloc) else {
-        return Refusal::Empty.number();
-    };
-    let answer = served::parked_of(&object, connection);
-    slot.put(object);
-    answer
+    slot.server(alloc, &mut |server| Ok(server.parked_of(connection)))
 }
 
 /// Names a connection on which octets came due that no call on it brought.
@@ -56,10 +40,5 @@ pub extern "C" fn lr_server_next_due(alloc: Global, slot: &mut Slot, connection:
     ensures does { OnServer (OnNextDue connection.old connection.new) (held_in slot.old) (held_in slot.new) result }
     ensures connection { HasNoServer (held_in slot.old) → connection.new ≡ connection.old }
 {
-    let Some(mut object) = slot.take(alloc) else {
-        return Refusal::Empty.number();
-    };
-    let answer = served::next_due(&mut object, connection);
-    slot.put(object);
-    answer
+    slot.server(alloc, &mut |server| Ok(server.next_due(connection)))
 }

@@ -1,12 +1,11 @@
 //! Raw calls of a client.
+#![tactic(auto, using(crate::proofs::Doors::by_client))]
 
 ghost use Rattle.lemonrudder.specs.Answers.{OnClient};
-ghost use Rattle.lemonrudder.specs.RawCalls.{OnCallRaw, OnRecallRaw, raw_question};
+ghost use Rattle.lemonrudder.specs.RawCalls.{OnCallRaw, OnRecallRaw, OnRedirectRaw, raw_question};
 ghost use Rattle.lemonrudder.specs.Slots.{held_in};
 
-use crate::called::raw;
 use crate::calling::RawQuestion;
-use crate::refusal::Refusal;
 use crate::slot::Slot;
 use std::alloc::Global;
 
@@ -34,12 +33,10 @@ pub extern "C" fn lr_client_call_raw(
         contexts,
         body,
     };
-    let Some(mut object) = slot.take(alloc) else {
-        return Refusal::Empty.number();
-    };
-    let answer = raw::call(&mut object, now, expiration, &asked);
-    slot.put(object);
-    answer
+    slot.client(
+        alloc,
+        &mut |client| client.call_raw(now, expiration, &asked),
+    )
 }
 
 /// Takes a raw call of before up again, under its own number.
@@ -67,10 +64,34 @@ pub extern "C" fn lr_client_recall_raw(
         contexts,
         body,
     };
-    let Some(mut object) = slot.take(alloc) else {
-        return Refusal::Empty.number();
+    slot.client(
+        alloc,
+        &mut |client| client.recall_raw(call, now, expiration, &asked),
+    )
+}
+
+/// Asks under another object key, by a body of octets, for a call that is led elsewhere.
+#[unsafe(no_mangle)]
+pub extern "C" fn lr_client_redirect_raw(
+    alloc: Global,
+    slot: &mut Slot,
+    call: i64,
+    wish: u32,
+    key: &[u8],
+    operation: &[u8],
+    order: u32,
+    contexts: &[u8],
+    body: &[u8],
+) -> i64
+    ensures { OnClient (OnRedirectRaw call (raw_question wish key.now operation.now order contexts.now body.now)) (held_in slot.old) (held_in slot.new) result }
+{
+    let asked = RawQuestion {
+        wish,
+        key,
+        operation,
+        order,
+        contexts,
+        body,
     };
-    let answer = raw::recall(&mut object, call, now, expiration, &asked);
-    slot.put(object);
-    answer
+    slot.client(alloc, &mut |client| client.redirect_raw(call, &asked))
 }

@@ -1,4 +1,5 @@
 //! A server of requests that may be sent again.
+#![tactic(auto, using(crate::proofs::Doors::by_server))]
 
 ghost use Rattle.std.specs.Prelude.{◌≡◌, ◌≤ℤ◌, pos};
 ghost use Rattle.lemonrudder.specs.Answers.{OnServer};
@@ -14,9 +15,9 @@ ghost use Rattle.lemonrudder.specs.Slots.{held_in, unboxed};
 
 use crate::cataloguing::no_families;
 use crate::object::Object;
+use crate::paired;
 use crate::refusal::Refusal;
 use crate::seed::Seed;
-use crate::served;
 use crate::serving::Serving;
 use crate::slot::Slot;
 use crate::terms::Terms;
@@ -85,12 +86,7 @@ pub extern "C" fn lr_server_open(
 pub extern "C" fn lr_server_set(alloc: Global, slot: &mut Slot, what: u32, value: u64) -> i64
     ensures { OnServer (OnSet what value) (held_in slot.old) (held_in slot.new) result }
 {
-    let Some(mut object) = slot.take(alloc) else {
-        return Refusal::Empty.number();
-    };
-    let answer = served::set(&mut object, what, value);
-    slot.put(object);
-    answer
+    slot.server(alloc, &mut |server| server.set(what, value))
 }
 
 /// Exchanges what a server has on offer and a catalogue that is in a slot.
@@ -100,7 +96,7 @@ fn swapped(alloc: Global, object: &mut Object, catalogue: &mut Slot) -> i64
     let Some(mut other) = catalogue.take(alloc) else {
         return Refusal::Empty.number();
     };
-    let answer = served::swap(object, &mut other);
+    let answer = paired::swap(object, &mut other);
     catalogue.put(other);
     answer
 }
@@ -123,12 +119,7 @@ pub extern "C" fn lr_server_swap(alloc: Global, slot: &mut Slot, catalogue: &mut
 pub extern "C" fn lr_server_connect(alloc: Global, slot: &mut Slot, connection: u64) -> i64
     ensures { OnServer (OnConnect connection) (held_in slot.old) (held_in slot.new) result }
 {
-    let Some(mut object) = slot.take(alloc) else {
-        return Refusal::Empty.number();
-    };
-    let answer = served::connect(&mut object, connection);
-    slot.put(object);
-    answer
+    slot.server(alloc, &mut |server| server.connect(connection))
 }
 
 /// Forgets a connection that is gone.
@@ -136,12 +127,7 @@ pub extern "C" fn lr_server_connect(alloc: Global, slot: &mut Slot, connection: 
 pub extern "C" fn lr_server_lost(alloc: Global, slot: &mut Slot, connection: u64) -> i64
     ensures { OnServer (OnLost connection) (held_in slot.old) (held_in slot.new) result }
 {
-    let Some(mut object) = slot.take(alloc) else {
-        return Refusal::Empty.number();
-    };
-    let answer = served::lost(&mut object, connection);
-    slot.put(object);
-    answer
+    slot.server(alloc, &mut |server| server.lost(connection))
 }
 
 /// Says goodbye on a connection.
@@ -149,12 +135,7 @@ pub extern "C" fn lr_server_lost(alloc: Global, slot: &mut Slot, connection: u64
 pub extern "C" fn lr_server_farewell(alloc: Global, slot: &mut Slot, connection: u64) -> i64
     ensures { OnServer (OnFarewell connection) (held_in slot.old) (held_in slot.new) result }
 {
-    let Some(mut object) = slot.take(alloc) else {
-        return Refusal::Empty.number();
-    };
-    let answer = served::farewell(&mut object, connection);
-    slot.put(object);
-    answer
+    slot.server(alloc, &mut |server| server.farewell(connection))
 }
 
 /// Whether what comes on a connection has no meaning.
@@ -162,12 +143,7 @@ pub extern "C" fn lr_server_farewell(alloc: Global, slot: &mut Slot, connection:
 pub extern "C" fn lr_server_is_closed(alloc: Global, slot: &mut Slot, connection: u64) -> i64
     ensures { OnServer (OnIsClosed connection) (held_in slot.old) (held_in slot.new) result }
 {
-    let Some(object) = slot.take(alloc) else {
-        return Refusal::Empty.number();
-    };
-    let answer = served::is_closed(&object, connection);
-    slot.put(object);
-    answer
+    slot.server(alloc, &mut |server| Ok(server.is_closed(connection)))
 }
 
 /// Takes octets of a connection, and answers how many.
@@ -181,12 +157,7 @@ pub extern "C" fn lr_server_feed(
 ) -> i64
     ensures { OnServer (OnFeed connection moment octets.now) (held_in slot.old) (held_in slot.new) result }
 {
-    let Some(mut object) = slot.take(alloc) else {
-        return Refusal::Empty.number();
-    };
-    let answer = served::feed(&mut object, connection, moment, octets);
-    slot.put(object);
-    answer
+    slot.server(alloc, &mut |server| server.feed(connection, moment, octets))
 }
 
 /// Says what waits: `lr_request`.
@@ -195,12 +166,7 @@ pub extern "C" fn lr_server_asked(alloc: Global, slot: &mut Slot, room: &mut [u8
     ensures does { OnServer (OnAsked room.old room.new) (held_in slot.old) (held_in slot.new) result }
     ensures none { result ≤ℤ pos 0 → room.new ≡ room.old }
 {
-    let Some(object) = slot.take(alloc) else {
-        return Refusal::Empty.number();
-    };
-    let answer = served::asked(&object, room);
-    slot.put(object);
-    answer
+    slot.server(alloc, &mut |server| Ok(server.asked(room)))
 }
 
 /// Copies a part of the request of a ticket, which waits or is parked.
@@ -215,12 +181,7 @@ pub extern "C" fn lr_server_part(
     ensures does { OnServer (OnPart ticket part room.old room.new) (held_in slot.old) (held_in slot.new) result }
     ensures room { HasNoServer (held_in slot.old) → room.new ≡ room.old }
 {
-    let Some(object) = slot.take(alloc) else {
-        return Refusal::Empty.number();
-    };
-    let answer = served::part(&object, ticket, part, room);
-    slot.put(object);
-    answer
+    slot.server(alloc, &mut |server| server.part(ticket, part, room))
 }
 
 /// Answers by results.
@@ -234,12 +195,7 @@ pub extern "C" fn lr_server_answer(
 ) -> i64
     ensures { OnServer (OnAnswer ticket order results.now) (held_in slot.old) (held_in slot.new) result }
 {
-    let Some(mut object) = slot.take(alloc) else {
-        return Refusal::Empty.number();
-    };
-    let answer = served::answer(&mut object, ticket, order, results);
-    slot.put(object);
-    answer
+    slot.server(alloc, &mut |server| server.answer(ticket, order, results))
 }
 
 /// Answers by an exception that the operation declares.
@@ -254,12 +210,10 @@ pub extern "C" fn lr_server_raise(
 ) -> i64
     ensures { OnServer (OnRaise ticket id.now order members.now) (held_in slot.old) (held_in slot.new) result }
 {
-    let Some(mut object) = slot.take(alloc) else {
-        return Refusal::Empty.number();
-    };
-    let answer = served::raise(&mut object, ticket, id, order, members);
-    slot.put(object);
-    answer
+    slot.server(
+        alloc,
+        &mut |server| server.raise(ticket, id, order, members),
+    )
 }
 
 /// Answers by a system exception.
@@ -274,12 +228,10 @@ pub extern "C" fn lr_server_system(
 ) -> i64
     ensures { OnServer (OnSystem ticket name minor completed) (held_in slot.old) (held_in slot.new) result }
 {
-    let Some(mut object) = slot.take(alloc) else {
-        return Refusal::Empty.number();
-    };
-    let answer = served::system(&mut object, ticket, name, minor, completed);
-    slot.put(object);
-    answer
+    slot.server(
+        alloc,
+        &mut |server| server.system(ticket, name, minor, completed),
+    )
 }
 
 /// Answers a raw operation.
@@ -294,12 +246,10 @@ pub extern "C" fn lr_server_answer_raw(
 ) -> i64
     ensures { OnServer (OnAnswerRaw ticket status order body.now) (held_in slot.old) (held_in slot.new) result }
 {
-    let Some(mut object) = slot.take(alloc) else {
-        return Refusal::Empty.number();
-    };
-    let answer = served::answer_raw(&mut object, ticket, status, order, body);
-    slot.put(object);
-    answer
+    slot.server(
+        alloc,
+        &mut |server| server.answer_raw(ticket, status, order, body),
+    )
 }
 
 /// Answers `_is_a` and `_non_existent`.
@@ -307,12 +257,7 @@ pub extern "C" fn lr_server_answer_raw(
 pub extern "C" fn lr_server_identify(alloc: Global, slot: &mut Slot, ticket: u64) -> i64
     ensures { OnServer (OnIdentify ticket) (held_in slot.old) (held_in slot.new) result }
 {
-    let Some(mut object) = slot.take(alloc) else {
-        return Refusal::Empty.number();
-    };
-    let answer = served::identify(&mut object, ticket);
-    slot.put(object);
-    answer
+    slot.server(alloc, &mut |server| server.identify(ticket))
 }
 
 /// Gives up the request that waits.
@@ -320,12 +265,7 @@ pub extern "C" fn lr_server_identify(alloc: Global, slot: &mut Slot, ticket: u64
 pub extern "C" fn lr_server_give_up(alloc: Global, slot: &mut Slot, ticket: u64) -> i64
     ensures { OnServer (OnGiveUp ticket) (held_in slot.old) (held_in slot.new) result }
 {
-    let Some(mut object) = slot.take(alloc) else {
-        return Refusal::Empty.number();
-    };
-    let answer = served::give_up(&mut object, ticket);
-    slot.put(object);
-    answer
+    slot.server(alloc, &mut |server| server.give_up(ticket))
 }
 
 /// Refuses the request of a ticket, for now.
@@ -339,12 +279,7 @@ pub extern "C" fn lr_server_refuse(
 ) -> i64
     ensures { OnServer (OnRefuse ticket name minor) (held_in slot.old) (held_in slot.new) result }
 {
-    let Some(mut object) = slot.take(alloc) else {
-        return Refusal::Empty.number();
-    };
-    let answer = served::refuse(&mut object, ticket, name, minor);
-    slot.put(object);
-    answer
+    slot.server(alloc, &mut |server| server.refuse(ticket, name, minor))
 }
 
 /// Gives up the request that waits, and says goodbye first.
@@ -352,12 +287,7 @@ pub extern "C" fn lr_server_refuse(
 pub extern "C" fn lr_server_goodbye(alloc: Global, slot: &mut Slot, ticket: u64) -> i64
     ensures { OnServer (OnGoodbye ticket) (held_in slot.old) (held_in slot.new) result }
 {
-    let Some(mut object) = slot.take(alloc) else {
-        return Refusal::Empty.number();
-    };
-    let answer = served::goodbye(&mut object, ticket);
-    slot.put(object);
-    answer
+    slot.server(alloc, &mut |server| server.goodbye(ticket))
 }
 
 /// Moves octets that are due on a connection into a room.
@@ -371,10 +301,5 @@ pub extern "C" fn lr_server_output(
     ensures does { OnServer (OnOutput connection room.old room.new) (held_in slot.old) (held_in slot.new) result }
     ensures room { HasNoServer (held_in slot.old) → room.new ≡ room.old }
 {
-    let Some(mut object) = slot.take(alloc) else {
-        return Refusal::Empty.number();
-    };
-    let answer = served::output(&mut object, connection, room);
-    slot.put(object);
-    answer
+    slot.server(alloc, &mut |server| Ok(server.output(connection, room)))
 }

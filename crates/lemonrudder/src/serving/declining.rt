@@ -29,6 +29,8 @@ impl Serving {
         let mut due = self.connections.take(connection);
         let declined = self.engine.decline(number, name, minor, &mut due.octets);
         self.connections.put(connection, due);
+        let why = self.engine.ending(connection);
+        self.connections.note(connection, why);
         match declined {
             Ok(()) => Ok(0),
             Err(error) => Err(Refusal::from(error)),
@@ -58,7 +60,11 @@ impl Serving {
         let given_up = self.engine.goodbye(number, &mut due.octets);
         self.connections.put(connection, due);
         match given_up {
-            Ok(_) => Ok(0),
+            Ok(_) => {
+                let why = self.engine.ending(connection);
+                self.connections.note(connection, why);
+                Ok(0)
+            }
             Err(CloseError::Waits) => Err(Refusal::Parks),
             Err(CloseError::NoConnection) => Err(Refusal::Memory),
             Err(CloseError::Memory) => Err(Refusal::Memory),

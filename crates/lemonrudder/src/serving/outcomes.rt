@@ -1,28 +1,27 @@
 //! The outcomes that are handed in for the request that waits, and for one that is parked.
 
-ghost use Rattle.std.specs.Prelude.{◌≡◌, Some, map};
-ghost use Rattle.cdr_core.specs.Fitting.{AreValid};
-ghost use Rattle.cdr_core.specs.View.{forms_of};
+ghost use Rattle.std.specs.Prelude.{◌≡◌, map};
+ghost use Rattle.giop_core.specs.Items.{item_at};
 ghost use Rattle.ft_log.specs.View.{performed_in};
 ghost use Rattle.ft_orb.specs.Engines.{awaited_lent, waits_in};
-ghost use Rattle.ft_objects.specs.Interfaces.{raise_of};
-ghost use Rattle.lemonrudder.specs.Outcomes.{forms_in, members_in, outcome_read};
+ghost use Rattle.lemonrudder.specs.Outcomes.{IsCopy};
 
 use crate::named::{completion_of, order_of, raw_status_of, system_name_of};
 use crate::refusal::Refusal;
 use crate::serving::Serving;
 use crate::serving::questions::Found;
+use crate::serving::replying::{answer_carrying, lent};
 use crate::serving::taken::done_of;
-use crate::types::values_of;
-use cdr_core::{Order, Ty, Val};
-use ft_log::Outcome;
-use ft_objects::{Catalogue, Lookup, string_at};
+use cdr_core::Val;
+use ft_log::{Outcome, RawStatus};
+use ft_objects::{Catalogue, string_at};
 use ft_orb::Asked;
+use std::alloc::Global;
 
 impl Serving {
     ghost use Rattle.lemonrudder.specs.Tickets.{IsFound};
     ghost use Rattle.lemonrudder.specs.declared.serving.questions.Found.TheVariants.{Waits};
-    ghost use Rattle.lemonrudder.specs.Outcomes.{AnswersAsked, AreRead, HandsIn, OnAnswer, OnAnswerRaw, OnIdentify, OnRaise, OnSystem, identity_at, interface_at, member_types, result_types};
+    ghost use Rattle.lemonrudder.specs.Outcomes.{Answers, AnswersAsked, CanBe, HandsIn, OnAnswer, OnAnswerRaw, OnIdentify, OnRaise, OnSystem, identity_at};
 
     /// Hands in the outcome of the request of a number, which waits, and answers the count where it is taken.
     fn answer_asked(
@@ -30,65 +29,67 @@ impl Serving {
         number: u64,
         connection: u64,
         outcome: Outcome,
+        contexts: &[(u32, &[u8])],
         count: u64,
     ) -> Result<u64, Refusal>
         requires found { IsFound (Waits number connection) (waits_in self.old.engine) }
-        ensures { AnswersAsked number connection count (performed_in outcome) self.old self.new result }
+        requires can { CanBe (Waits number connection) (performed_in outcome) self.old }
+        ensures { AnswersAsked connection count (performed_in outcome) (map item_at contexts.now) self.old self.new result }
     {
-        if !self.engine.can_answer(number, &outcome) {
-            return Err(Refusal::Outcome);
-        }
         let mut due = self.connections.take(connection);
-        let answered = self.engine.answer(number, outcome, &mut due.octets);
+        let answered = answer_carrying(
+            &mut self.engine,
+            number,
+            outcome,
+            contexts,
+            &mut due.octets,
+        );
         self.connections.put(connection, due);
+        let why = self.engine.ending(connection);
+        self.connections.note(connection, why);
         done_of(count, answered)
     }
 
     /// .. of one that waits or is parked.
-    fn hand_in(&mut self, found: Found, outcome: Outcome, count: u64) -> Result<u64, Refusal>
+    fn answer_found(
+        &mut self,
+        found: Found,
+        outcome: Outcome,
+        contexts: &[(u32, &[u8])],
+        count: u64,
+    ) -> Result<u64, Refusal>
         requires found { IsFound found (waits_in self.old.engine) }
-        ensures { HandsIn found count (performed_in outcome) self.old self.new result }
+        requires can { CanBe found (performed_in outcome) self.old }
+        ensures { Answers found count (performed_in outcome) (map item_at contexts.now) self.old self.new result }
     {
         match found {
-            Found::Waits(number, connection) => self.answer_asked(
-                number, connection, outcome, count,
-            ),
-            Found::Parked(number) => self.settle(number, outcome, count),
+            Found::Waits(number, connection) => {
+                self.answer_asked(number, connection, outcome, contexts, count)
+            }
+            Found::Parked(number) => self.settle(number, outcome, contexts, count),
         }
     }
 
-    /// The values of types whose octets these are; others are no outcome.
-    fn values(&self, types: &[Ty], order: Order, octets: &[u8]) -> Result<Vec<Val>, Refusal>
-        ensures { AreValid (forms_of types.now) → AreRead (Some (forms_of types.now)) order octets.now result }
+    /// .. where it may be that of the request. What was said for the ticket goes with it.
+    fn hand_in(
+        &mut self,
+        ticket: u64,
+        found: Found,
+        outcome: Outcome,
+        count: u64,
+    ) -> Result<u64, Refusal>
+        requires found { IsFound found (waits_in self.old.engine) }
+        ensures { HandsIn ticket found count (performed_in outcome) self.old self.new result }
     {
-        of_outcome(values_of(self.alloc, types, order, octets))
-    }
-
-    /// The results of the operation that waits, of these octets.
-    fn results(&self, asked: &Asked<'_>, order: Order, octets: &[u8]) -> Result<Vec<Val>, Refusal>
-        ensures { AreRead (result_types (interface_at self.now (awaited_lent asked.now))) order octets.now result }
-    {
-        let Lookup::Operation(signature) = self.lookup(asked) else {
+        if !self.can_be(found, &outcome) {
             return Err(Refusal::Outcome);
+        }
+        let said = self.setup.take_said(ticket);
+        let Ok(contexts) = lent(self.alloc, &said) else {
+            self.setup.said = said;
+            return Err(Refusal::Memory);
         };
-        self.values(&signature.results, order, octets)
-    }
-
-    /// The members of an exception of the operation that waits, of these octets.
-    fn members(
-        &self,
-        asked: &Asked<'_>,
-        id: &[u8],
-        order: Order,
-        octets: &[u8],
-    ) -> Result<Vec<Val>, Refusal>
-        ensures { AreRead (member_types id.now (interface_at self.now (awaited_lent asked.now))) order octets.now result }
-    {
-        let Lookup::Operation(signature) = self.lookup(asked) else {
-            return Err(Refusal::Outcome);
-        };
-        let types = types_of_exception(&signature.raises, id).ok_or(Refusal::Outcome)?;
-        self.values(types, order, octets)
+        self.answer_found(found, outcome, &contexts, count)
     }
 
     /// Answers by results.
@@ -98,8 +99,16 @@ impl Serving {
         let order = order_of(order)?;
         let called = self.called_by(ticket)?;
         let found = called.found;
-        let results = self.results(&called.asked, order, octets)?;
-        self.hand_in(found, Outcome::Returned(results), 0)
+        if !self.are_results(&called.asked, order, octets) {
+            return Err(Refusal::Outcome);
+        }
+        let body = copy_of(self.alloc, octets)?;
+        self.hand_in(
+            ticket,
+            found,
+            Outcome::Raw(RawStatus::NoException, order, body),
+            0,
+        )
     }
 
     /// Answers by an exception that the operation declares.
@@ -115,9 +124,13 @@ impl Serving {
         let order = order_of(order)?;
         let called = self.called_by(ticket)?;
         let found = called.found;
-        let members = self.members(&called.asked, id, order, octets)?;
-        let id = Vec::from_slice(self.alloc, id)?;
-        self.hand_in(found, Outcome::Raised(id, members), 0)
+        let body = self.exception_of(&called.asked, id, order, octets)?;
+        self.hand_in(
+            ticket,
+            found,
+            Outcome::Raw(RawStatus::UserException, order, body),
+            0,
+        )
     }
 
     /// Answers by a system exception.
@@ -134,7 +147,7 @@ impl Serving {
         let completed = completion_of(completed)?;
         let called = self.called_by(ticket)?;
         let found = called.found;
-        self.hand_in(found, Outcome::System(name, minor, completed), 0)
+        self.hand_in(ticket, found, Outcome::System(name, minor, completed), 0)
     }
 
     /// Answers a raw operation.
@@ -151,8 +164,8 @@ impl Serving {
         let order = order_of(order)?;
         let called = self.called_by(ticket)?;
         let found = called.found;
-        let body = Vec::from_slice(self.alloc, body)?;
-        self.hand_in(found, Outcome::Raw(status, order, body), 0)
+        let body = copy_of(self.alloc, body)?;
+        self.hand_in(ticket, found, Outcome::Raw(status, order, body), 0)
     }
 
     /// The answer to a request, where it asks an object that names its repository ids what it is.
@@ -183,7 +196,7 @@ impl Serving {
             return Ok(0);
         };
         let results = vec![in self.alloc; Val::Boolean(truth)]?;
-        self.hand_in(found, Outcome::Returned(results), 1)
+        self.hand_in(ticket, found, Outcome::Returned(results), 1)
     }
 }
 
@@ -196,25 +209,13 @@ const IS_A: &[u8] = b"_is_a";
 /// The name of the operation that asks whether an object is gone (CORBA 3.3 Part 1, 8.3).
 const NON_EXISTENT: &[u8] = b"_non_existent";
 
-/// Octets that are no values of types are no outcome.
-fn of_outcome(read: Result<Vec<Val>, Refusal>) -> Result<Vec<Val>, Refusal>
-    ensures { result ≡ outcome_read read }
+/// A copy of octets. For none no memory is taken.
+pub(super) fn copy_of(alloc: Global, octets: &[u8]) -> Result<Vec<u8>, Refusal>
+    ensures { IsCopy octets.now result }
 {
-    match read {
-        Ok(values) => Ok(values),
-        Err(Refusal::Memory) => Err(Refusal::Memory),
-        Err(_) => Err(Refusal::Outcome),
+    if octets.is_empty() {
+        return Ok(Vec::new(alloc));
     }
-}
-
-/// The types of the members of an exception among those that are declared.
-fn types_of_exception<'s>(raises: &'s [(Vec<u8>, Vec<Ty>)], id: &[u8]) -> Option<&'s [Ty]>
-    ensures { forms_in result ≡ members_in id.now (map raise_of raises.now) }
-{
-    for (declared, members) in raises {
-        if declared.as_slice() == id {
-            return Some(members.as_slice());
-        }
-    }
-    None
+    let copy = Vec::from_slice(alloc, octets)?;
+    Ok(copy)
 }

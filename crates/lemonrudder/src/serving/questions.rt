@@ -5,12 +5,12 @@ ghost use Rattle.cdr_core.specs.View.{values_of};
 ghost use Rattle.ft_orb.specs.Engines.{awaited_lent, waits_in};
 ghost use Rattle.ft_orb.specs.Parking.{parked_in};
 ghost use Rattle.ft_objects.specs.Interfaces.{interface_of};
-ghost use Rattle.lemonrudder.specs.Questions.{TellsIfSome, client_of};
+ghost use Rattle.lemonrudder.specs.Questions.{TellsIfSome, body_size, client_of};
 
 use crate::refusal::{Refusal, copied, count_of};
 use crate::request::{RequestHead, put_question, ticket_of};
 use crate::serving::Serving;
-use cdr_core::{Order, end_of_list, write_list};
+use cdr_core::{Order, Val, are_writable, end_of_list, write_list};
 use ft_objects::{Catalogue, Lookup, boolean_at, octets_at, ulong_at};
 use ft_orb::Asked;
 use giop_link::Inbound;
@@ -50,7 +50,7 @@ impl Serving {
     }
 
     /// The request of a ticket, which waits or is parked.
-    fn named_by(&self, ticket: u64) -> Result<Called<'_>, Refusal>
+    pub(super) fn named_by(&self, ticket: u64) -> Result<Called<'_>, Refusal>
         ensures named { IsNamedBy (named_by ticket (waits_in self.now.engine) (parked_in self.now.engine)) result }
         ensures found { IfOk result (λ x. IsFoundAt x.found (waits_in self.now.engine)) }
     {
@@ -112,16 +112,12 @@ impl Serving {
         matches!(self.lookup(asked), Lookup::Raw)
     }
 
-    /// Says how long the body of the request that waits is; of a raw one also its order and its place.
+    /// Says whether the request that waits is raw, how long its body is, its order and its place.
     fn put_body(&self, head: &mut RequestHead, asked: &Asked<'_>)
         ensures { head.new ≡ with_body (interface_at self.now (awaited_lent asked.now)) (values_of asked.now.arguments.now) head.old }
     {
-        if !self.is_raw(asked) {
-            head.body_size = end_of_list(0, asked.arguments).unwrap_or(0);
-            return;
-        }
-        head.is_raw = 1;
-        head.body_size = octets_at(asked.arguments, 0).map_or(0, count_of);
+        head.is_raw = u32::from(self.is_raw(asked));
+        head.body_size = body_len(asked.arguments);
         head.body_order = boolean_at(asked.arguments, 1).map_or(0, u32::from);
         head.body_at = ulong_at(asked.arguments, 2).map_or(0, u64::from);
     }
@@ -151,19 +147,18 @@ impl Serving {
         1
     }
 
-    /// Copies the body of the request that waits.
-    fn body(&self, asked: &Asked<'_>, room: &mut [u8]) -> Result<u64, Refusal>
-        ensures { TellsBody (interface_at self.now (awaited_lent asked.now)) (values_of asked.now.arguments.now) room.old room.new result }
+    /// Copies a body: octets that came, or arguments that are values.
+    fn body(&self, arguments: &[Val], room: &mut [u8]) -> Result<u64, Refusal>
+        ensures { TellsBody (values_of arguments.now) room.old room.new result }
     {
-        if self.is_raw(asked) {
-            let octets = octets_at(asked.arguments, 0).ok_or(Refusal::None)?;
+        if let Some(octets) = octets_at(arguments, 0) {
             return Ok(copied(octets, room));
         }
-        if !cdr_core::are_writable(asked.arguments) {
+        if !are_writable(arguments) {
             return Err(Refusal::None);
         }
         let mut octets = Vec::new(self.alloc);
-        write_list(Order::Big, 0, asked.arguments, &mut octets)?;
+        write_list(Order::Big, 0, arguments, &mut octets)?;
         Ok(copied(&octets, room))
     }
 
@@ -175,10 +170,20 @@ impl Serving {
         match part {
             0 => Ok(copied(asked.object_key, room)),
             1 => Ok(copied(asked.operation, room)),
-            2 => self.body(&asked, room),
+            2 => self.body(asked.arguments, room),
             3 => client(&asked, room),
             _ => Err(Refusal::None),
         }
+    }
+}
+
+/// How many octets a body has: those that came, or those of arguments that are values, in big order from place 0.
+fn body_len(arguments: &[Val]) -> u64
+    ensures { result ≡ body_size (values_of arguments.now) }
+{
+    match octets_at(arguments, 0) {
+        Some(octets) => count_of(octets),
+        None => end_of_list(0, arguments).unwrap_or(0),
     }
 }
 

@@ -83,10 +83,7 @@ impl Bank {
                 })
             }
             Event::Due => Ok(0),
-            Event::Goodbye => match self.server.farewell(connection) {
-                Err(Error::Parks) => Ok(0), // (it is said when its deposits are answered)
-                said => said.map(|()| 0),
-            },
+            Event::Goodbye => self.server.farewell(connection).map(|_| 0),
         };
         self.server.give_up(); // (for want of memory a request may wait still)
         for deposit in deposits {
@@ -166,7 +163,7 @@ async fn talk(
     loop {
         let (mut size, mut taken) = (None, 0);
         let event = select! {
-            _ = told.notified() => if is_leaving { Event::Goodbye } else { Event::Due },
+            _ = told.notified() => Event::Due,
             _ = stop.changed(), if !is_leaving => Event::Goodbye,
             read = timeout(IDLE, stream.read(&mut room)), if !is_leaving => match read {
                 Ok(read) => { size = Some(read?); Event::Due }

@@ -3,7 +3,7 @@ use Rattle.std.proofs.lemmas.List.{take-append-drop, take_all, take_more}
 use Rattle.std.proofs.lemmas.Result.{err_from_is_err_and}
 use Rattle.cdr_core.specs.View.{forms_of}
 use Rattle.lemonrudder.specs.Decoding.{HasRead}
-use Rattle.lemonrudder.proofs.Coding.{none_waits, refused_types, some_waits}
+use Rattle.lemonrudder.proofs.Coding.{none_waits, refused_types, some_last, some_waits}
 use Rattle.lemonrudder.proofs.types.types_of.Goals as goal
 use Rattle.lemonrudder.proofs.types.types_of.Goals.{then-is_some-via-then-is_some, then-is_some-via-else-is_some+then-not-are_valid}
 
@@ -13,7 +13,7 @@ returns-in_err-take c =
     let k = c.loop-code.code-index in
     let p = err_from_is_err_and c.from_residual.result c.from_residual.ensures.1 in
     let more : codes ≡ (take k codes ++ get_or codes k 0 ∷ []) ++ drop (k + 1) codes = sym (take-append-drop (k + 1) codes) ∙ ap (λ xs. xs ++ drop (k + 1) codes) (take_more codes k 0 (omega arith)) in
-    refused_types codes (take k codes ++ get_or codes k 0 ∷ []) (drop (k + 1) codes) c.take.new.self c.in_err-take.field-0.0 c.from_residual.result more (c.in_err-take.ensures (take k codes) c.loop-code.invariant) (p.1 ∙ ap Err p.2)
+    refused_types codes (take k codes ++ get_or codes k 0 ∷ []) (drop (k + 1) codes) c.take.new.self c.in_err-take.field-0.0 c.from_residual.result more (some_last (take k codes) (get_or codes k 0)) (c.in_err-take.ensures (take k codes) c.loop-code.invariant) (p.1 ∙ ap Err p.2)
 
 pub returns-then-is_some : goal.returns-then-is_some
 returns-then-is_some c =

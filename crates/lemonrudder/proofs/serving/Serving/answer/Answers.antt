@@ -1,12 +1,13 @@
-use Rattle.std.proofs.Common.{◌∙◌, ap, Err, sym}
+use Rattle.std.proofs.Common.{◌∙◌, Err, ap, inl, inr, refl, sym}
 use Rattle.std.proofs.lemmas.Result.{err_from_is_err_and}
-use Rattle.ft_log.specs.Performed.{returned}
 use Rattle.ft_orb.specs.Engines.{awaited_lent, waits_in}
 use Rattle.ft_orb.specs.Parking.{parked_in}
-use Rattle.lemonrudder.specs.Outcomes.{HandsInValues, interface_at, result_types}
+use Rattle.lemonrudder.specs.declared.refusal.Refusal.TheVariants.{Outcome}
+use Rattle.lemonrudder.specs.Outcomes.{HandsInResults}
 use Rattle.lemonrudder.specs.Serves.{ByCalled}
 use Rattle.lemonrudder.specs.Tickets.{called_by}
-use Rattle.lemonrudder.proofs.Handing.{by_found, named, not_called, read-err, read-ok, unnamed}
+use Rattle.lemonrudder.proofs.Handing.{by_found, named, not_called, unnamed}
+use Rattle.lemonrudder.proofs.Idling.{not_so}
 use Rattle.lemonrudder.proofs.serving.Serving.answer.Goals as goal
 
 pub returns-in_err-order : goal.returns-in_err-order
@@ -14,34 +15,40 @@ returns-in_err-order c =
     let p = err_from_is_err_and c.from_residual.result c.from_residual.ensures.1 in
     let s = c.args.self.now in
     let r = c.from_residual.result in
-    unnamed _ c.in_err-order.field-0.0 s r (λ o. ByCalled c.args.ticket s s r (λ f w. HandsInValues f (result_types (interface_at s w)) o c.args.octets.now returned s s r)) (sym c.order_of.ensures ∙ c.in_err-order.was) (p.1 ∙ ap Err p.2)
+    unnamed _ c.in_err-order.field-0.0 s r (λ o. ByCalled c.args.ticket s s r (HandsInResults c.args.ticket o c.args.octets.now s s r)) (sym c.order_of.ensures ∙ c.in_err-order.was) (p.1 ∙ ap Err p.2)
 
 pub returns-in_err-called : goal.returns-in_err-called
 returns-in_err-called c =
     let p = err_from_is_err_and c.from_residual-in_err-called.result c.from_residual-in_err-called.ensures.1 in
     let s = c.args.self.now in
     let r = c.from_residual-in_err-called.result in
-    named _ c.in_ok-order.order s s r (λ o. ByCalled c.args.ticket s s r (λ f w. HandsInValues f (result_types (interface_at s w)) o c.args.octets.now returned s s r)) (sym c.order_of.ensures ∙ c.in_ok-order.was)
-    (not_called (called_by c.args.ticket (waits_in s.engine) (parked_in s.engine)) c.in_err-called.field-0.0 s r (λ f w. HandsInValues f (result_types (interface_at s w)) c.in_ok-order.order c.args.octets.now returned s s r) c.in_err-called.ensures.called (p.1 ∙ ap Err p.2))
+    named _ c.in_ok-order.order s s r (λ o. ByCalled c.args.ticket s s r (HandsInResults c.args.ticket o c.args.octets.now s s r)) (sym c.order_of.ensures ∙ c.in_ok-order.was)
+    (not_called (called_by c.args.ticket (waits_in s.engine) (parked_in s.engine)) c.in_err-called.field-0.0 s r (HandsInResults c.args.ticket c.in_ok-order.order c.args.octets.now s s r) c.in_err-called.ensures.called (p.1 ∙ ap Err p.2))
 
-pub returns-in_err-results : goal.returns-in_err-results
-returns-in_err-results c =
-    let p = err_from_is_err_and c.from_residual-in_err-results.result c.from_residual-in_err-results.ensures.1 in
+pub returns-then-not-are_results : goal.returns-then-not-are_results
+returns-then-not-are_results c =
     let s = c.args.self.now in
-    let w = awaited_lent c.in_ok-called.called.asked in
-    let e = c.in_err-results.field-0.0 in
     let o = c.in_ok-order.order in
-    rw (p.1, p.2) (named _ o s s (Err e) (λ o. ByCalled c.args.ticket s s (Err e) (λ f w. HandsInValues f (result_types (interface_at s w)) o c.args.octets.now returned s s (Err e))) (sym c.order_of.ensures ∙ c.in_ok-order.was)
-    (by_found (called_by c.args.ticket (waits_in s.engine) (parked_in s.engine)) c.in_ok-called.called.found w s s (Err e) (λ f w. HandsInValues f (result_types (interface_at s w)) o c.args.octets.now returned s s (Err e)) c.in_ok-called.ensures.called
-    (read-err c.in_ok-called.called.found (result_types (interface_at s w)) o c.args.octets.now returned s e c.in_err-results.ensures)))
+    named _ o s s (Err Outcome) (λ o. ByCalled c.args.ticket s s (Err Outcome) (HandsInResults c.args.ticket o c.args.octets.now s s (Err Outcome))) (sym c.order_of.ensures ∙ c.in_ok-order.was)
+    (by_found (called_by c.args.ticket (waits_in s.engine) (parked_in s.engine)) c.in_ok-called.called.found (awaited_lent c.in_ok-called.called.asked) s s (Err Outcome) (HandsInResults c.args.ticket o c.args.octets.now s s (Err Outcome)) c.in_ok-called.ensures.called
+    (λ are. absurd (not_so c.if-not-are_results.true (c.are_results.ensures.1 are)), λ none. (refl, refl)))
+
+pub returns-in_err-body : goal.returns-in_err-body
+returns-in_err-body c =
+    let p = err_from_is_err_and c.from_residual-in_err-body.result c.from_residual-in_err-body.ensures.1 in
+    let s = c.args.self.now in
+    let r = c.from_residual-in_err-body.result in
+    let o = c.in_ok-order.order in
+    named _ o s s r (λ o. ByCalled c.args.ticket s s r (HandsInResults c.args.ticket o c.args.octets.now s s r)) (sym c.order_of.ensures ∙ c.in_ok-order.was)
+    (by_found (called_by c.args.ticket (waits_in s.engine) (parked_in s.engine)) c.in_ok-called.called.found (awaited_lent c.in_ok-called.called.asked) s s r (HandsInResults c.args.ticket o c.args.octets.now s s r) c.in_ok-called.ensures.called
+    (λ are. inl (c.in_err-body.ensures.1, (p.1 ∙ ap Err (p.2 ∙ c.in_err-body.ensures.0), refl)), λ none. absurd (none (c.are_results.ensures.0 c.if-not-are_results.false))))
 
 pub returns : goal.returns
 returns c =
     let s = c.args.self.now in
     let t = c.hand_in.new.self in
     let r = c.hand_in.result in
-    let w = awaited_lent c.in_ok-called.called.asked in
     let o = c.in_ok-order.order in
-    named _ o s t r (λ o. ByCalled c.args.ticket s t r (λ f w. HandsInValues f (result_types (interface_at s w)) o c.args.octets.now returned s t r)) (sym c.order_of.ensures ∙ c.in_ok-order.was)
-    (by_found (called_by c.args.ticket (waits_in s.engine) (parked_in s.engine)) c.in_ok-called.called.found w s t r (λ f w. HandsInValues f (result_types (interface_at s w)) o c.args.octets.now returned s t r) c.in_ok-called.ensures.called
-    (read-ok c.in_ok-called.called.found (result_types (interface_at s w)) o c.args.octets.now returned s t r c.in_ok-results.results c.in_ok-results.ensures c.hand_in.ensures))
+    named _ o s t r (λ o. ByCalled c.args.ticket s t r (HandsInResults c.args.ticket o c.args.octets.now s t r)) (sym c.order_of.ensures ∙ c.in_ok-order.was)
+    (by_found (called_by c.args.ticket (waits_in s.engine) (parked_in s.engine)) c.in_ok-called.called.found (awaited_lent c.in_ok-called.called.asked) s t r (HandsInResults c.args.ticket o c.args.octets.now s t r) c.in_ok-called.ensures.called
+    (λ are. inr (rw c.in_ok-body.ensures at c.hand_in.ensures), λ none. absurd (none (c.are_results.ensures.0 c.if-not-are_results.false))))

@@ -15,7 +15,6 @@ pub returns-in_default-message-clause-does : goal.returns-in_default-message-cla
 returns-in_default-message-clause-does c = (
   refl,
   λ idle. (refl, refl),
-  λ owner calls past moment octets written w a. absurd (never-none c.message.result _ (c.message.ensures.asks owner calls past moment octets written w a) c.in_default-message.is),
   λ x held calls past waiting moment octets written w a. absurd (never-none c.message.result _ (c.message.ensures.late x held calls past waiting moment octets written w a) c.in_default-message.is),
 )
 
@@ -23,7 +22,6 @@ pub returns-in_default-inbound-clause-does : goal.returns-in_default-inbound-cla
 returns-in_default-inbound-clause-does c = (
   refl,
   λ idle. (refl, refl),
-  λ owner calls past moment octets written w a. absurd (never-other c.message.result c.in-Some-message.inbound a.question (c.message.ensures.asks owner calls past moment octets written w a) c.in-Some-message.is (λ v r e. c.in_default-inbound.not-Request v r e)),
   λ x held calls past waiting moment octets written w a. absurd (never-other c.message.result c.in-Some-message.inbound a.asks.question (c.message.ensures.late x held calls past waiting moment octets written w a) c.in-Some-message.is (λ v r e. c.in_default-inbound.not-Request v r e)),
 )
 
@@ -39,10 +37,6 @@ returns-clause-does c =
     let told = c.put_body.ensures ∙ ap (with_body (interface_at s x) x.call.arguments) (c.put_question.ensures ∙ ap (with_question v r.request_id r.reply (contexts_left r.contexts)) base) in (
       refl,
       λ idle. absurd (none-some x (sym (here ∙ idle))),
-      λ owner calls past moment octets written w a.
-          let same : x ≡ w = let e : Some x ≡ Some w = here ∙ a.waits in cc in
-          let question = question-is c.message.result c.in-Some-message.inbound v r a.question (c.message.ensures.asks owner calls past moment octets written w a) c.in-Some-message.is c.in-Request.is in
-          (refl, laid_out ∙ ap (λ (h : RequestHead). laid (octets_of_request h) c.args.room.now) (told ∙ (ap (λ (y : Awaited). head_of (interface_at s y) y (question_of v r)) same ∙ ap (λ (q : Question). head_of (interface_at s w) w q) question))),
       λ s' held calls past waiting moment octets written w a.
           let same : x ≡ w = let e : Some x ≡ Some w = here ∙ a.asks.waits in cc in
           let question = question-is c.message.result c.in-Some-message.inbound v r a.asks.question (c.message.ensures.late s' held calls past waiting moment octets written w a) c.in-Some-message.is c.in-Request.is in

@@ -1,6 +1,7 @@
 use Rattle.std.proofs.Common.{Ok, Err, ap, inr, refl}
 use Rattle.lemonrudder.proofs.Asked.{opened-owed, opened-undone}
 use Rattle.lemonrudder.proofs.Idling.{not_both, not_so}
+use Rattle.lemonrudder.proofs.Noting.{undone-noted}
 use Rattle.lemonrudder.proofs.serving.Serving.connect.Goals as goal
 
 pub returns-then-is_asking : goal.returns-then-is_asking
@@ -19,8 +20,8 @@ returns-in-Ok c =
         c.connect.ensures.catalogue,
         refl,
         c.connect.ensures.asks,
-        c.in-Ok.ensures.table,
         c.in-Ok.ensures.late,
+        c.open.ensures.noted,
       ),
     )
 
@@ -37,7 +38,7 @@ returns-in-Err c =
         c.connect.ensures.catalogue,
         refl,
         c.connect.ensures.asks,
-        c.in-Err.ensures.table,
         c.in-Err.ensures.late,
+        undone-noted c.args.connection c.has-was.result s.connections c.open.new.self c.undo.new.self c.has-was.ensures c.open.ensures.noted c.undo.ensures.noted c.undo.ensures.gone c.undo.ensures.noted_stays,
       ),
     )

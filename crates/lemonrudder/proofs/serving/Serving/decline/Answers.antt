@@ -5,6 +5,7 @@ use Rattle.ft_orb.specs.Parking.{DeclinesLate, not_now}
 use Rattle.lemonrudder.specs.Connected.{owed_in}
 use Rattle.lemonrudder.specs.Serves.{owed_on}
 use Rattle.lemonrudder.proofs.Asked.{asked-idle, carry, found-there, only-only}
+use Rattle.lemonrudder.proofs.Noting.{noted-noted, notes-why, only-noted}
 use Rattle.lemonrudder.proofs.OwingLate.{declines-late-owed}
 use Rattle.lemonrudder.proofs.serving.Serving.decline.Goals as goal
 
@@ -18,18 +19,21 @@ returns-in-Ok c =
     let placed = c.take-due.ensures.placed in
     let there = found-there s.connections s.engine c.args.number c.args.connection c.requires.found s.asked in
     let old = c.take-due.ensures.owed in
-    let new = c.put.ensures.owed (c.take-due.ensures.only.0 ∙ there) in
+    let only = only-only c.args.connection s.connections c.take-due.new.self c.put.new.self c.take-due.ensures.only c.put.ensures.only in
+    let new = (c.note.ensures.same c.args.connection).1 ∙ c.put.ensures.owed (c.take-due.ensures.only.0 ∙ there) in
+    let noted = notes-why c.args.connection c.ending-why.result _ s.connections c.put.new.self c.note.new.self c.ending-why.ensures only.0 (noted-noted s.connections c.take-due.new.self c.put.new.self c.take-due.ensures.noted c.put.ensures.noted) c.note.ensures.noted in
     let e = c.decline-declined.ensures in
     let refusal = not_now c.args.name c.args.minor in (
       Ok (tt {0}),
       refl,
       e.idle,
-      (only-only c.args.connection s.connections c.take-due.new.self c.put.new.self c.take-due.ensures.only c.put.ensures.only, refl),
+      (only-noted c.args.connection s.connections c.put.new.self c.note.new.self only c.note.ensures.same, refl),
       (e.catalogue, refl),
       e.asks,
       λ x held calls past waiting moment octets written w asks.
-          carry (λ a b. DeclinesLate families_offer x held calls past waiting moment octets written w refusal c.decline-declined.new.self a b) (drop n before) (drop n out) (owed_on s c.args.connection) (owed_in c.put.new.self c.args.connection) old new
+          carry (λ a b. DeclinesLate families_offer x held calls past waiting moment octets written w refusal c.decline-declined.new.self a b) (drop n before) (drop n out) (owed_on s c.args.connection) (owed_in c.note.new.self c.args.connection) old new
           (declines-late-owed families_offer x held calls past waiting n before out placed moment octets written w refusal c.decline-declined.new.self (c.in-Ok.ensures.late x held calls past waiting moment octets written w asks)),
+      noted,
     )
 
 pub returns-in-Err : goal.returns-in-Err
@@ -38,13 +42,15 @@ returns-in-Err c =
     let d = c.take-due.result in
     let there = found-there s.connections s.engine c.args.number c.args.connection c.requires.found s.asked in
     let old = c.take-due.ensures.owed in
-    let new = c.put.ensures.owed (c.take-due.ensures.only.0 ∙ there) in
+    let only = only-only c.args.connection s.connections c.take-due.new.self c.put.new.self c.take-due.ensures.only c.put.ensures.only in
+    let new = (c.note.ensures.same c.args.connection).1 ∙ c.put.ensures.owed (c.take-due.ensures.only.0 ∙ there) in
+    let noted = notes-why c.args.connection c.ending-why.result _ s.connections c.put.new.self c.note.new.self c.ending-why.ensures only.0 (noted-noted s.connections c.take-due.new.self c.put.new.self c.take-due.ensures.noted c.put.ensures.noted) c.note.ensures.noted in
     let e = c.decline-declined.ensures in
     let none = c.in-Err.ensures.unwritten in (
       Err c.in-Err.error,
       ap Err c.from.ensures,
       e.idle,
-      (only-only c.args.connection s.connections c.take-due.new.self c.put.new.self c.take-due.ensures.only c.put.ensures.only, refl),
+      (only-noted c.args.connection s.connections c.put.new.self c.note.new.self only c.note.ensures.same, refl),
       (e.catalogue, refl),
       e.asks,
       (
@@ -54,7 +60,8 @@ returns-in-Err c =
         λ x held calls past waiting moment octets written w asks. (c.in-Err.ensures.counts x held calls past waiting moment octets written w asks, c.in-Err.ensures.given_up x held calls past waiting moment octets written w asks),
         c.in-Err.ensures.due,
       ),
+      noted,
     )
 
 pub invariant_of-self : goal.invariant_of-self
-invariant_of-self c = record { asked = asked-idle c.put.new.self c.decline-declined.new.self c.decline-declined.ensures.idle }
+invariant_of-self c = record { asked = asked-idle c.note.new.self c.decline-declined.new.self c.decline-declined.ensures.idle }

@@ -1,4 +1,4 @@
-use Rattle.std.proofs.Common.{refl, ◌∙◌, sym}
+use Rattle.std.proofs.Common.{Ok, ap, refl, ◌∙◌, sym}
 use Rattle.lemonrudder.proofs.Asked.{asked-idle, idle-by}
 use Rattle.lemonrudder.proofs.Idling.{not_both, not_so}
 use Rattle.lemonrudder.proofs.serving.Serving.feed.Goals as goal
@@ -17,8 +17,21 @@ returns-then-not-has c =
     let e = c.tick.ensures in (
       λ some. absurd (not_so c.if-is_asking.false (c.is_asking.ensures.1 some)),
       λ idle. (
-        λ none. (refl, (e.idle, (λ q. (refl, refl), refl), (e.catalogue, refl), e.asks, e.clock, e.forgotten, e.table, e.late)),
+        λ none. (refl, (e.idle, (λ q. (refl, refl), refl), λ q. (refl, refl), (e.catalogue, refl), e.asks, e.clock, e.forgotten, e.late)),
         λ there. absurd (not_so (sym c.has.ensures ∙ c.if-not-has.true) there),
+      ),
+    )
+
+pub returns-then-is_leaving : goal.returns-then-is_leaving
+returns-then-is_leaving c =
+    let e = c.tick-then-is_leaving.ensures in (
+      λ some. absurd (not_so c.if-is_asking.false (c.is_asking.ensures.1 some)),
+      λ idle. (
+        λ none. absurd (not_so none (sym c.has.ensures ∙ c.if-not-has.false)),
+        λ there. (
+          λ leaves. (ap Ok c.count_of.ensures, (e.idle, (λ q. (refl, refl), refl), λ q. (refl, refl), (e.catalogue, refl), e.asks, e.clock, e.forgotten, e.late)),
+          λ stays. absurd (not_so stays (sym c.is_leaving.ensures ∙ c.if-is_leaving.true)),
+        ),
       ),
     )
 
@@ -27,7 +40,10 @@ returns-then-is_full c = (
   λ some. absurd (not_so c.if-is_asking.false (c.is_asking.ensures.1 some)),
   λ idle. (
     λ none. absurd (not_so none (sym c.has.ensures ∙ c.if-not-has.false)),
-    λ there. (λ full. (refl, refl), λ room. absurd (room (c.is_full.ensures.0 c.if-is_full.true))),
+    λ there. (
+      λ leaves. absurd (not_so (sym c.is_leaving.ensures ∙ c.if-is_leaving.false) leaves),
+      λ stays. (λ full. (refl, refl), λ room. absurd (room (c.is_full.ensures.0 c.if-is_full.true))),
+    ),
   ),
 )
 
@@ -36,7 +52,10 @@ returns c = (
   λ some. absurd (not_so c.if-is_asking.false (c.is_asking.ensures.1 some)),
   λ idle. (
     λ none. absurd (not_so none (sym c.has.ensures ∙ c.if-not-has.false)),
-    λ there. (λ full. absurd (not_so c.if-is_full.false (c.is_full.ensures.1 full)), λ room. c.serve.ensures),
+    λ there. (
+      λ leaves. absurd (not_so (sym c.is_leaving.ensures ∙ c.if-is_leaving.false) leaves),
+      λ stays. (λ full. absurd (not_so c.if-is_full.false (c.is_full.ensures.1 full)), λ room. c.serve.ensures),
+    ),
   ),
 )
 

@@ -18,5 +18,5 @@ returns c =
     let w = awaited_lent c.in_ok-called.called.asked in
     let truth = c.in-Some.truth in
     let told = ap values_of c.in_ok-results.ensures.items ∙ ap (λ (v : Value). values (v ∷ [])) (value-boolean truth) in
-    by_found (called_by c.args.ticket (waits_in s.engine) (parked_in s.engine)) c.in_ok-called.called.found w s t r (λ f x. Identifies f (identity_at s x) s t r) c.in_ok-called.ensures.called
-    (subst (λ o. Identifies c.in_ok-called.called.found o s t r) (sym (sym c.identity.ensures ∙ c.in-Some.is)) (inr (subst (λ (vs : Values). HandsIn c.in_ok-called.called.found 1 (returned vs) s t r) told c.hand_in.ensures)))
+    by_found (called_by c.args.ticket (waits_in s.engine) (parked_in s.engine)) c.in_ok-called.called.found w s t r (λ f x. Identifies c.args.ticket f (identity_at s x) s t r) c.in_ok-called.ensures.called
+    (subst (λ o. Identifies c.args.ticket c.in_ok-called.called.found o s t r) (sym (sym c.identity.ensures ∙ c.in-Some.is)) (inr (subst (λ (vs : Values). HandsIn c.args.ticket c.in_ok-called.called.found 1 (returned vs) s t r) told c.hand_in.ensures)))

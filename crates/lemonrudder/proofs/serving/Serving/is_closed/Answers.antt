@@ -2,4 +2,4 @@ use Rattle.std.proofs.Common.{rules, refl}
 use Rattle.lemonrudder.proofs.serving.Serving.is_closed.Goals as goal
 
 pub returns : goal.returns
-returns c = (refl, c.is_closed.result, search rules, c.is_closed.ensures.rests, c.is_closed.ensures.asks, (c.is_closed.ensures.stays, c.is_closed.ensures.late))
+returns c = (refl, c.is_closed.result, search rules, (c.is_closed.ensures.stays, c.is_closed.ensures.late))

@@ -13,10 +13,9 @@ returns c = (
   λ idle. (
     refl,
     c.lost.ensures.idle,
-    (c.remove.ensures.gone, c.remove.ensures.others, c.remove-2.ensures.updates.1, λ q apart. grind (arith, common_steps, c.remove-2.ensures.updates.2 q)),
+    (c.remove.ensures.gone, c.remove.ensures.others, c.remove-2.ensures.updates.1, λ q apart. grind (arith, common_steps, c.remove-2.ensures.updates.2 q), c.remove.ensures.noted),
     (c.lost.ensures.catalogue, refl),
     c.lost.ensures.asks,
-    c.lost.ensures.table,
     c.lost.ensures.late,
   ),
 )

@@ -14,7 +14,7 @@ returns c =
       λ idle. (
         refl,
         swapped_with _ _ _ _ now.bound (search rules) (search rules),
-        (now.idle, refl, ((λ x. (refl, refl)), refl), now.asks, now.parked, now.waiting, now.counts, now.ended),
+        (now.idle, refl, ((λ x. (refl, refl)), refl), (λ x. (refl, refl)), now.asks, now.parked, now.waiting, now.counts, now.ended),
         now.late,
       ),
     )

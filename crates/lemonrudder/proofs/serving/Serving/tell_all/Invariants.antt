@@ -1,4 +1,4 @@
-use Rattle.std.proofs.Common.{◌≡◌, ◌==◌, ℕ, List, Some, false}
+use Rattle.std.proofs.Common.{◌≡◌, ◌==◌, ℕ, List, Some, false, map}
 use Rattle.ft_log.specs.Holding.{Holding}
 use Rattle.ft_log.specs.Performed.{Performed}
 use Rattle.ft_objects.specs.Families.{families_offer}
@@ -7,8 +7,10 @@ use Rattle.ft_orb.specs.Deeds.{Told}
 use Rattle.ft_orb.specs.History.{Event}
 use Rattle.ft_orb.specs.Parking.{Settings, Stays, left_in, parked_in, told_in}
 use Rattle.ft_orb.specs.Requests.{Call}
+use Rattle.giop_core.specs.Items.{item_at}
+use Rattle.lemonrudder.specs.Replying.{Carries, Contexts}
 use Rattle.lemonrudder.specs.Serves.{IsIdle, KeepsCatalogue, KeepsTickets}
-use Rattle.lemonrudder.specs.Telling.{Tells}
+use Rattle.lemonrudder.specs.Telling.{AreTold, Scene}
 use Rattle.lemonrudder.proofs.serving.Serving.tell_all.Given as goal
 
 -- so far they were told
@@ -19,8 +21,9 @@ invariant-loop-connection l = record {
   tickets : KeepsTickets l.fn.self l.self;
   telling : told_in l.self.engine l.number ≡ told_in l.fn.self.engine l.number;
   others : (q : ℕ) → (q == l.number) ≡ false → (parked_in l.self.engine q ≡ parked_in l.fn.self.engine q) × (told_in l.self.engine q ≡ told_in l.fn.self.engine q);
-  told : (x : Settings) (held : ℕ → Holding) (calls : List Call) (past : List Event) (waiting : ℕ → List Waiter) (outcome : Performed) → Stays families_offer x held calls l.fn.self.engine past waiting
-      → told_in l.fn.self.engine l.number ≡ Some outcome → (told : List Told) × Tells x held calls l.number outcome (record { past = past; waiting = waiting }) told l.fn.self l.self;
+  told : (x : Settings) (held : ℕ → Holding) (calls : List Call) (past : List Event) (waiting : ℕ → List Waiter) (outcome : Performed) (carried : Waiter → Contexts) → Carries (map item_at l.contexts) outcome carried → Stays families_offer x held calls l.fn.self.engine past waiting
+      → told_in l.fn.self.engine l.number ≡ Some outcome → (told : List Told) × (h : Scene) × AreTold x held calls l.number carried outcome told (record { past = past; waiting = waiting }) h l.fn.self l.self
+      × Stays families_offer x held calls l.self.engine h.past h.waiting;
 }
 
 -- with each who was told one waits less

@@ -1,11 +1,12 @@
-use Rattle.std.proofs.Common.{IsSome, Option, refl, subst, sym, ◌∙◌, ◌∷◌, ℕ}
+use Rattle.std.proofs.Common.{[], IsSome, Option, refl, subst, sym, ◌∙◌, ◌∷◌, ℕ}
 use Rattle.ft_log.specs.Performed.{Performed}
 use Rattle.ft_log.specs.Holding.{known}
 use Rattle.ft_objects.specs.Families.{families_offer}
 use Rattle.ft_orb.specs.History.{Withdrew}
 use Rattle.ft_orb.specs.Parking.{Stays, not_now, put_at}
-use Rattle.lemonrudder.specs.Telling.{after_all}
+use Rattle.lemonrudder.proofs.Carrying.{carries-none}
 use Rattle.lemonrudder.proofs.Idling.{not_so}
+use Rattle.lemonrudder.proofs.Tellings.{told-from}
 use Rattle.lemonrudder.proofs.serving.Serving.withdraw.Goals as goal
 
 pub returns-then-not-can_settle : goal.returns-then-not-can_settle
@@ -25,9 +26,16 @@ returns c = (
     ),
     λ x held calls past waiting st.
         let y = c.withdraw.ensures.late x held calls past waiting st in
-        let so = c.tell_all.ensures.late x held calls (Withdrew y.i ∷ past) waiting (not_now c.args.name c.args.minor) y.stays c.withdraw.ensures.told in
-        let due = so.are_due in
-        let same = y.stays.parks.once so.i y.i c.args.number so.taken y.taken so.was y.was in
-        (y.i, y.taken, y.was, so.told, (so.are_told, so.none, record { there = due.there; owed = due.owed; named = due.named }, subst (λ (i : ℕ). Stays families_offer x (put_at i (known (not_now c.args.name c.args.minor)) held) calls c.tell_all.new.self.engine (after_all x c.args.number (record { past = Withdrew y.i ∷ past; waiting = waiting }) so.told).past (after_all x c.args.number (record { past = Withdrew y.i ∷ past; waiting = waiting }) so.told).waiting) same so.stays)),
+        let so = c.tell_all.ensures.late x held calls (Withdrew y.i ∷ past) waiting (not_now c.args.name c.args.minor) (λ w. []) (carries-none (not_now c.args.name c.args.minor)) y.stays c.withdraw.ensures.told in
+        let same = y.stays.parks.once so.i y.i c.args.number so.taken y.taken so.was y.was in (
+          y.i,
+          y.taken,
+          y.was,
+          so.told,
+          so.last,
+          told-from x held calls c.args.number (λ w. []) (not_now c.args.name c.args.minor) so.told _ so.last c.args.self.now _ c.tell_all.new.self refl refl so.are_told,
+          so.none,
+          subst (λ (i : ℕ). Stays families_offer x (put_at i (known (not_now c.args.name c.args.minor)) held) calls c.tell_all.new.self.engine so.last.past so.last.waiting) same so.stays,
+        ),
   ),
 )

@@ -1,0 +1,8 @@
+use Rattle.std.proofs.Common.{rules}
+use Rattle.lemonrudder.specs.Invokes.{question}
+use Rattle.lemonrudder.specs.Resuming.{OnRecall}
+use Rattle.lemonrudder.proofs.Doors.{by_client}
+use Rattle.lemonrudder.proofs.exports.client.lr_client_recall.Goals as goal
+
+pub returns : goal.returns
+returns c = by_client (OnRecall c.args.call c.args.now c.args.expiration (question c.args.key.now c.args.operation.now c.args.types.now c.args.order c.args.arguments.now)) _ _ _ _ c.client.ensures (search rules) (λ s t r did. search rules)
