@@ -279,6 +279,12 @@ class Engine(Held):
         """Answers by a stored outcome of the request, in another process too. Errors as of answer_raw."""
         self.answer_raw(outcome.body, outcome.order, outcome.status, ticket=ticket)
 
+    def answer_unkept(self, outcome: Outcome, *, ticket: Optional[int] = None) -> None:
+        """.. and keeps nothing: a store of yours does. Where the request comes again, it comes to you again. The reply
+        carries no service contexts. Errors as of answer_raw, but that LOST means that nothing is kept."""
+        self._answered(self._ticket(ticket), library.lr_server_answer_unkept, outcome.status, outcome.order,
+                       *lent(outcome.body))
+
     def reply_contexts(self, contexts: Sequence[Tuple[int, Octets]], *, ticket: Optional[int] = None) -> None:
         """Ids and data of service contexts for the replies that the next answer of a request makes due, unless it is
         refused: none, or at most 1048576 octets of them. They take the place of those that were said before, of any
