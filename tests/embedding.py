@@ -46,7 +46,8 @@ VALGRIND = ["valgrind", "-q", "--error-exitcode=9", "--leak-check=full"]
 # a program under valgrind may take so many seconds
 PATIENCE = 600
 SEED = 29
-PROGRAMS = ["again.c", "bad.c", "cdr.c", "kept.c", "many.c", "parked.c", "leaving.c", "heap.c", "classes.cpp"]
+PROGRAMS = ["again.c", "apart.c", "bad.c", "bounds.c", "cdr.c", "kept.c", "many.c", "parked.c", "leaving.c", "heap.c",
+            "classes.cpp"]
 # what the shared library takes of others
 TAKES = {"malloc", "realloc", "free", "memcpy", "memmove", "memset", "memcmp", "bcmp"}
 
@@ -346,12 +347,23 @@ def shared_library_says_how_it_is_loaded(kit: Kit) -> None:
     want(os.path.exists(os.path.join(kit.lib, library.SONAME)), True)
 
 
-def heap_is_for_threads(kit: Kit) -> None:
-    """Threads that take their first memory at once do not race."""
+def want_threads(kit: Kit) -> None:
+    """Skips the test where there is no sanitizer for threads."""
     if not kit.can_sanitize(THREADS):
         raise unittest.SkipTest("this needs the sanitizer for threads")
+
+
+def heap_is_for_threads(kit: Kit) -> None:
+    """Threads that take their first memory at once do not race."""
+    want_threads(kit)
     support = os.path.join(ROOT, "embed", "support.c")
     ran_well([kit.compile("threads", [os.path.join(EMBED, "threads.c"), support], [*THREADS, "-pthread"], [])])
+
+
+def objects_are_for_threads(kit: Kit) -> None:
+    """Threads may use different objects at once."""
+    want_threads(kit)
+    ran_well([kit.compile("apart_threads", [os.path.join(EMBED, "apart.c")], [f"-I{EMBED}", *THREADS, "-pthread"])])
 
 
 # ---- programs ----
@@ -391,7 +403,8 @@ def run_program(kit: Kit, source: str, way: str) -> None:
         raise unittest.SkipTest("this needs the sanitizers")
     name = f"{source} {way}".replace(".", "_").replace(" ", "_")
     libraries = kit.shared() if way == "with the shared library" else None
-    ran_well([*before, kit.compile(name, [os.path.join(EMBED, source)], [f"-I{EMBED}", *flags], libraries)])
+    flags = [f"-I{EMBED}", "-pthread", *flags]
+    ran_well([*before, kit.compile(name, [os.path.join(EMBED, source)], flags, libraries)])
 
 
 # ---- the header for C++ ----
@@ -1220,7 +1233,8 @@ GATEWAYS = [gateway_leads_to_itself, gateway_forwards_as_it_came, gateway_retrie
             gateway_refuses_what_it_cannot, gateway_takes_long_replies, gateway_forwards_without_a_reply,
             gateway_forwards_one_at_a_time, gateway_wants_a_reference]
 LIBRARY = [headers_stand_alone, declarations_can_be_marked, slots_are_closed_by_kind, programs_link, two_archives_link,
-           names_are_exported, shared_library_says_how_it_is_loaded, heap_is_for_threads, packages_are_found,
+           names_are_exported, shared_library_says_how_it_is_loaded, heap_is_for_threads, objects_are_for_threads,
+           packages_are_found,
            packages_are_found_by_cmake, cmake_takes_versions_by_the_rule, packages_are_made_below_a_root,
            versions_are_one]
 
@@ -1326,6 +1340,38 @@ class SlowBankCpp(Example, unittest.TestCase):
     """The bank in C++ whose deposits take their time."""
 
     NAME, SOURCES, FLAGS = "slow_bank_cpp", ["slow_bank.cpp"], ["-pthread"]
+
+
+class Threads(Example):
+    """An example whose threads a sanitizer watches."""
+
+    @classmethod
+    def setUpClass(cls) -> None:
+        kit = the_kit()
+        want_threads(kit)
+        paths = [os.path.join(EXAMPLES, source) for source in cls.SOURCES]
+        cls.subject = kit.compile(cls.NAME, paths, [f"-I{EXAMPLES}", *THREADS, *cls.FLAGS])
+
+
+@of_functions(SLOW_BANKS)
+class ThreadsOfSlowBankC(Threads, unittest.TestCase):
+    """Those of the bank in C whose deposits take their time."""
+
+    NAME, SOURCES, FLAGS = "slow_bank_c_threads", ["slow_bank.c", "loop.c"], ["-pthread"]
+
+
+@of_functions(SLOW_BANKS)
+class ThreadsOfSlowBankCpp(Threads, unittest.TestCase):
+    """Those of the bank in C++ whose deposits take their time."""
+
+    NAME, SOURCES, FLAGS = "slow_bank_cpp_threads", ["slow_bank.cpp"], ["-pthread"]
+
+
+@of_functions([servants_answer_in_each_way])
+class ThreadsOfServantsCpp(Threads, unittest.TestCase):
+    """Those of the server in C++ whose servants answer in each way."""
+
+    NAME, SOURCES, FLAGS = "servants_cpp_threads", ["../tests/embed/servants.cpp"], ["-pthread"]
 
 
 @of_functions([slow_bank_gives_up])
