@@ -8,6 +8,7 @@ from __future__ import annotations
 
 import atexit
 import contextlib
+import dataclasses
 import functools
 import itertools
 import multiprocessing
@@ -23,9 +24,10 @@ import tempfile
 import threading
 import time
 import unittest
+import unittest.mock
 from collections.abc import Callable, Iterator
 
-from scripts import library
+from scripts import header, library
 from tests import base, giop, programs
 from tests.cdr import BIG, LITTLE, Octets
 from tests.giop import (
@@ -113,11 +115,12 @@ class Kit:
 
 def compile_text(kit: Kit, text: str, compiler: str, standard: str) -> None:
     """Compiles a text by itself."""
-    suffix = ".c" if standard.startswith("c9") or standard.startswith("c1") else ".cpp"
-    source = os.path.join(kit.work, "alone" + suffix)
+    source = os.path.join(kit.work, "alone.cpp" if "++" in standard else "alone.c")
     with open(source, "w", encoding="ascii") as file:
         file.write(text)
-    run(compiler, f"-std={standard}", *WARNINGS, f"-I{kit.include}", "-c", source, "-o", source + ".o")
+    of_c = [] if "++" in standard else ["-Wstrict-prototypes"]
+    run(compiler, f"-std={standard}", *WARNINGS, "-Wconversion", *of_c, f"-I{kit.include}", "-c", source, "-o",
+        source + ".o")
 
 
 def headers_stand_alone(kit: Kit) -> None:
@@ -126,7 +129,7 @@ def headers_stand_alone(kit: Kit) -> None:
     loop_text = '#include "lemonrudder_loop.hpp"\n' * 2
     compilers = ["cc", *(["clang"] if shutil.which("clang") else [])]
     for compiler in compilers:
-        for standard in ("c99", "c11"):
+        for standard in ("c99", "c11", "c17", "c2x"):
             compile_text(kit, c_text, compiler, standard)
     if shutil.which("g++"):
         for compiler in ["g++", *(["clang++"] if shutil.which("clang++") else [])]:
@@ -164,10 +167,11 @@ def slots_are_closed_by_kind(kit: Kit) -> None:
 
 
 def programs_link(kit: Kit) -> None:
-    """`cc main.c -llemonrudder` is all that a program needs, with either library."""
+    """`cc main.c -llemonrudder` is all that a program needs, with either library; what is not called may be left out."""
     source, program = os.path.join(EMBED, "main.c"), os.path.join(kit.work, "main")
     search = {"LIBRARY_PATH": kit.lib, "CPATH": kit.include, "LD_LIBRARY_PATH": kit.lib}
-    for words in (["-llemonrudder"], ["-Wl,-Bstatic", "-llemonrudder", "-Wl,-Bdynamic"]):
+    for words in (["-llemonrudder"], ["-Wl,-Bstatic", "-llemonrudder", "-Wl,-Bdynamic"], ["-static", "-llemonrudder"],
+                  ["-Wl,--gc-sections", kit.archive]):
         run("cc", source, *words, "-o", program, env=search)
         if run(program, env=search) != "no error\n":
             raise Wrong("the program that was linked printed something else")
@@ -340,11 +344,58 @@ def names_are_exported(kit: Kit) -> None:
 
 
 def shared_library_says_how_it_is_loaded(kit: Kit) -> None:
-    """It has the name of its series, and is bound when it is loaded."""
-    said = run("readelf", "-dW", os.path.join(kit.lib, "liblemonrudder.so"))
+    """It has the name of its series, and is bound when it is loaded; then only its data can be written, and no octet of
+    that be run."""
+    said = run("readelf", "-dlW", os.path.join(kit.lib, "liblemonrudder.so"))
     want(re.findall(r"\(SONAME\).*\[(.*)\]", said), [library.SONAME])
     want(bool(re.search(r"\(FLAGS_1\).*\bNOW\b", said)), True)
     want(os.path.exists(os.path.join(kit.lib, library.SONAME)), True)
+    want(("TEXTREL" in said, "GNU_RELRO" in said), (False, True))
+    want(re.findall(r"^ +GNU_STACK .* (\w+) +0x\w+$", said, re.M), ["RW"])
+    want([flags for flags in re.findall(r"^ +LOAD .* (\w[\w ]*) +0x\w+$", said, re.M) if "W" in flags and "E" in flags],
+         [])
+
+
+ADDED = """
+#include "lemonrudder.h"
+int64_t lr_added(void) { return 7; }
+"""
+CALLS_ADDED = """
+#include "lemonrudder.h"
+#include <stdio.h>
+int64_t lr_added(void);
+int main(void) { return printf("%d\\n", (int)lr_added()) < 0 || lr_version() == 0; }
+"""
+
+
+def releases_have_nodes(kit: Kit) -> None:
+    """A program that calls what a later release of the series adds does not begin with an earlier one; any that the
+    earlier one serves runs with the later one."""
+    major, minor, patch = map(int, library.VERSION.split("."))
+    later = f"{major}.{minor}.{patch + 1}"
+    folder = tempfile.mkdtemp(dir=kit.work)
+    with open(os.path.join(kit.include, "lemonrudder.h"), encoding="ascii") as file:
+        declared = header.read(file.read())
+    functions = [*declared.functions, header.Function(header.Declared("int64_t", "lr_added"), [])]
+    with unittest.mock.patch.dict(header.ADDED, {later: ("lr_added",)}):
+        texts = {"map": header.the_map(dataclasses.replace(declared, functions=functions)), "added.c": ADDED,
+                 "calls.c": CALLS_ADDED}
+    paths = {name: os.path.join(folder, name) for name in (*texts, library.SONAME, "calls", "main")}
+    for name, text in texts.items():
+        with open(paths[name], "w", encoding="ascii") as file:
+            file.write(text)
+    run("cc", "-shared", "-fPIC", f"-I{kit.include}", paths["added.c"], "-Wl,--whole-archive", kit.archive,
+        "-Wl,--no-whole-archive", f"-Wl,-soname,{library.SONAME}", f"-Wl,--version-script={paths['map']}", "-o",
+        paths[library.SONAME])
+    run("cc", f"-I{kit.include}", paths["calls.c"], paths[library.SONAME], "-o", paths["calls"])
+    run("cc", f"-I{kit.include}", os.path.join(EMBED, "main.c"), *kit.shared()[:2], "-o", paths["main"])
+    for where in (folder, kit.lib):
+        want(run(paths["main"], env={"LD_LIBRARY_PATH": where}), "no error\n")
+    want(run(paths["calls"], env={"LD_LIBRARY_PATH": folder}), "7\n")
+    ran = subprocess.run([paths["calls"]], env={**os.environ, "LD_LIBRARY_PATH": kit.lib}, capture_output=True, text=True,
+                         check=False, timeout=SECONDS)
+    if ran.returncode == 0 or f"LEMONRUDDER_{later.replace('.', '_')}" not in ran.stderr or ran.stdout:
+        raise Wrong(f"status {ran.returncode}, printed {ran.stdout!r} {ran.stderr!r}")
 
 
 def want_threads(kit: Kit) -> None:
@@ -1233,10 +1284,9 @@ GATEWAYS = [gateway_leads_to_itself, gateway_forwards_as_it_came, gateway_retrie
             gateway_refuses_what_it_cannot, gateway_takes_long_replies, gateway_forwards_without_a_reply,
             gateway_forwards_one_at_a_time, gateway_wants_a_reference]
 LIBRARY = [headers_stand_alone, declarations_can_be_marked, slots_are_closed_by_kind, programs_link, two_archives_link,
-           names_are_exported, shared_library_says_how_it_is_loaded, heap_is_for_threads, objects_are_for_threads,
-           packages_are_found,
-           packages_are_found_by_cmake, cmake_takes_versions_by_the_rule, packages_are_made_below_a_root,
-           versions_are_one]
+           names_are_exported, releases_have_nodes, shared_library_says_how_it_is_loaded, heap_is_for_threads,
+           objects_are_for_threads, packages_are_found, packages_are_found_by_cmake, cmake_takes_versions_by_the_rule,
+           packages_are_made_below_a_root, versions_are_one]
 
 
 @functools.lru_cache(maxsize=None)
