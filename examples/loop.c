@@ -373,10 +373,13 @@ static void on_ready(size_t slot, bool is_broken) {
   }
 }
 
-/* What is done once a second. */
+/* What is done once a second. A connection that is lost, since there was no memory for the reply to what it had parked,
+ * is found here alone. */
 static void pass(int64_t second) {
-  for (struct peer *peer = peers + FIRST; peer < peers + SLOTS; peer++)
+  for (struct peer *peer = peers + FIRST; peer < peers + SLOTS; peer++) {
     if (peer->fd >= 0) part_in_time(peer, second);
+    if (peer->fd >= 0 && !peer->is_shut && lr_server_is_closed(served, peer->connection) == 1) give_turn(peer);
+  }
   lr_server_tick(served, moment());
   if (listener_fd >= 0) listen_for(true);
 }

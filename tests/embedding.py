@@ -29,6 +29,7 @@ from collections.abc import Callable, Iterator
 
 from scripts import header, library
 from tests import base, giop, programs
+from tests.allocations import Counting
 from tests.cdr import BIG, LITTLE, Octets
 from tests.giop import (
     CLOSE_CONNECTION, EMPTY, MAYBE, MESSAGE_ERROR, NO, NONE, USER_EXCEPTION, YES, Reference, reference_of, reply,
@@ -507,10 +508,10 @@ def header_checks_results(kit: Kit) -> None:
 class Serving:
     """A program that prints a reference and serves until SIGTERM, and then ends well and has printed nothing else."""
 
-    def __init__(self, *words: str, given: str | None = None) -> None:
+    def __init__(self, *words: str, given: str | None = None, env: dict[str, str] | None = None) -> None:
         self.is_stopped = False
         self.process = subprocess.Popen(words, stdin=subprocess.PIPE, stdout=subprocess.PIPE, stderr=subprocess.PIPE,
-                                        text=True)
+                                        text=True, env=env)
         if given is not None:
             self.process.stdin.write(given + "\n")
             self.process.stdin.flush()
@@ -868,7 +869,7 @@ def middle_of(port: int, count: int) -> float:
 def bank_is_fair(bank: str) -> None:
     """One peer that sends requests without an end makes another one wait five times as long as alone, or less."""
     with Serving(bank, "127.0.0.1", "0") as serving:
-        for _ in range(3):  # (other processes may take the processors)
+        for _ in range(10):  # (other processes may take the processors)
             alone = middle_of(serving.port, 500)
             flooding = multiprocessing.get_context("fork").Process(target=flood, args=(serving.port,), daemon=True)
             flooding.start()
@@ -879,6 +880,56 @@ def bank_is_fair(bank: str) -> None:
             if beside <= 5 * alone:
                 return
         raise Wrong(f"a request takes {beside} s, and {alone} s alone")
+
+
+def again(port: int, octets: bytes) -> giop.Message:
+    """The reply to a request, which is sent again, on another connection, where that is lost or TRANSIENT comes."""
+    end = time.monotonic() + SECONDS
+    while time.monotonic() < end:
+        with contextlib.suppress(ConnectionError), Peer(port) as peer:
+            peer.tell(octets)
+            head = peer.received(giop.HEADER)
+            if len(head) < giop.HEADER:
+                continue
+            answer = giop.read(head + peer.received(giop.size_of(head) - len(head)))
+            if answer.status == giop.SYSTEM_EXCEPTION:
+                want(answer.body, system_exception(answer.request_id, "TRANSIENT", NO)[-len(answer.body):])
+                continue
+            return answer
+    raise Wrong("a request is not answered")
+
+
+def bears_want_of_memory(*words: str) -> None:
+    """With each allocation of a bank refused in turn, one in each run: it ends before it serves, and says so; or each
+    deposit acts once, and gives the same again, though its first reply may be lost, or refused for now."""
+    amounts, balances, ends = (100, -60, -5), (100, 40, 35), []
+    asked = [deposit(number, "ann", amount, number=number) for number, amount in enumerate(amounts, 1)]
+    with Counting() as counting:
+        for refused in itertools.count(1):
+            try:
+                serving = Serving(*words, env=counting.refusing(refused))
+            except Wrong as wrong:
+                ends.append(str(wrong))
+            else:
+                ends.append("")
+                with serving:
+                    for octets, left in zip(asked * 2, balances * 2):
+                        want(again(serving.port, octets).body, left.to_bytes(8, "big"), f"allocation {refused}")
+            if counting.counted() < refused:
+                break
+    wrong = [end for end in ends if end and not re.search(r": \(1, '', '\w+: .+\\n'\)$", end)]
+    # (of the last none was refused)
+    want((wrong, ends[-1], "" in ends[:-1], len(ends) > 20), ([], "", True, True))
+
+
+def bank_bears_want_of_memory(bank: str) -> None:
+    """With each allocation refused in turn each deposit acts once."""
+    bears_want_of_memory(bank, "127.0.0.1", "0")
+
+
+def slow_bank_bears_want_of_memory(bank: str) -> None:
+    """With each allocation refused in turn each deposit acts once, also those that are parked."""
+    bears_want_of_memory(bank, "127.0.0.1", "0", "1")
 
 
 # ---- the banks whose deposits take their time ----
@@ -1422,6 +1473,20 @@ class ThreadsOfServantsCpp(Threads, unittest.TestCase):
     """Those of the server in C++ whose servants answer in each way."""
 
     NAME, SOURCES, FLAGS = "servants_cpp_threads", ["../tests/embed/servants.cpp"], ["-pthread"]
+
+
+@of_functions([bank_bears_want_of_memory])
+class RefusedBankC(Plain, unittest.TestCase):
+    """The bank in C, where memory is short."""
+
+    NAME, SOURCES, FLAGS = "refused_bank_c", ["bank.c", "loop.c"], []
+
+
+@of_functions([slow_bank_bears_want_of_memory])
+class RefusedSlowBankC(Plain, unittest.TestCase):
+    """The bank in C whose deposits take their time, where memory is short."""
+
+    NAME, SOURCES, FLAGS = "refused_slow_bank_c", ["slow_bank.c", "loop.c"], ["-pthread"]
 
 
 @of_functions([slow_bank_gives_up])

@@ -418,7 +418,8 @@ LR_API int64_t lr_server_wanted(lr_server *server, uint64_t ticket);
  * and none left over. As they stand they are kept as its outcome, where it carries FT_REQUEST. A request that wishes no
  * reply is answered all the same. LR_E_EMPTY, LR_E_RANGE, LR_E_TICKET, LR_E_ASKING, LR_E_OUTCOME, LR_E_MEMORY (it waits
  * or is parked still), and of one that waits LR_E_LOST: the outcome counts and is kept, and its reply is lost. Of a
- * parked one a reply for which memory is short loses its own connection alone, and LR_OK is answered. */
+ * parked one a reply for which memory is short loses its own connection alone, and LR_OK is answered: no call names that
+ * connection, so ask lr_server_is_closed of each from time to time. */
 LR_API int64_t lr_server_answer(lr_server *server, uint64_t ticket, uint32_t order, const void *results, size_t size);
 
 /* Whether lr_server_answer would take these results, before what they say is done: LR_OK. Nothing changes. What it

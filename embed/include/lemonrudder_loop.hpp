@@ -785,11 +785,14 @@ class Loop {
   }
 
   /* What is done once a second: parts from peers whose time is over, at once where they take nothing or their stream
-   * has ended. One that waits for a parked request has more time. */
+   * has ended. One that waits for a parked request has more time. A connection that is lost, since there was no memory
+   * for the reply to what it had parked, is found here alone. */
   void pass(detail::LoopClock::time_point moment) {
     for (std::size_t slot = first; slot < peers_.size(); slot++) {
-      if (!peers_[slot] || moment < peers_[slot]->until) continue;
+      if (!peers_[slot]) continue;
       Peer& peer = *peers_[slot];
+      if (!peer.is_shut && server_.is_closed(peer.connection)) give_turn(peer);
+      if (moment < peer.until) continue;
       if (is_idle(peer))
         part_from(peer);
       else if (!peer.has_unsent() && !server_.is_closed(peer.connection))
