@@ -2560,9 +2560,9 @@ class Addresses(Case):
 
     run_async, pair = Ends.run_async, Ends.pair
 
-    async def script(self, answers):
+    async def script(self, answers, **options):
         """A server that answers one request after another as a list says, a status and a body, or None: it hangs up.
-        Its port, and the key, operation, number and body of each request that came."""
+        Its port, and the key, operation, number and body of each request that came. `options` are the listener's."""
         seen = []
 
         async def serve(reader, writer):
@@ -2579,7 +2579,7 @@ class Addresses(Case):
                     writer.write(lr.write_reply(message.request_id, said[1], status=said[0]))
             writer.close()
 
-        listener = await asyncio.start_server(serve, "127.0.0.1", 0)
+        listener = await asyncio.start_server(serve, "127.0.0.1", 0, **options)
         self.addCleanup(listener.close)
         return listener.sockets[0].getsockname()[1], seen
 
@@ -2756,6 +2756,8 @@ class Tls(Case):
     """Both ends over TLS."""
 
     run_async = Ends.run_async
+    script, closed_port, reference, forward = (getattr(Addresses, name) for name in (
+        "script", "closed_port", "reference", "forward"))
 
     def contexts(self, folder):
         """Contexts of a server and of a client, which trust one certificate that both show."""
@@ -2791,6 +2793,30 @@ class Tls(Case):
                         await wrong.call("k", "who", "o", [b""], "so", timeout=0.5)
                 self.assertIsInstance(caught.exception.__cause__, ssl.SSLError)
                 self.assertEqual(caught.exception.sent, 0)
+        with tempfile.TemporaryDirectory() as folder:
+            self.run_async(main(*self.contexts(folder)))
+
+    def test_all_addresses_and_a_forward(self):
+        """A call keeps its number over addresses at which nobody listens or that hang up, and over a forward."""
+        async def main(served, called):
+            def add(number):
+                performed.append((number, lr.current().retention_id))
+                return sum(each for each, _ in performed)
+
+            performed, server = [], lr.Server()
+            server.add("there", "IDL:K:1.0", {"add": ("l", "l", add)})
+            led = self.forward(self.closed_port(), await server.listen(ssl=served), key="there")
+            first, hung_up = await self.script([None, None], ssl=served)
+            second, forwarded = await self.script([None, led], ssl=served)
+            reference = self.reference(self.closed_port(), first, second)
+            tls = {"ssl": called, "server_hostname": "localhost", "delays": (0.001, 0.01)}
+            async with server, lr.Client.of(reference, **tls) as client:
+                self.assertEqual([await client.call(client.key, "add", "l", [number], "l") for number in (7, 8)], [7, 15])
+            self.assertEqual(performed, [(7, 1), (8, 2)])
+            seen = hung_up + forwarded
+            self.assertEqual({one[:3] for one in seen}, {(b"k", "add", 1)})
+            self.assertGreater(len(hung_up), 0)
+            self.assertEqual(len(forwarded), 2)
         with tempfile.TemporaryDirectory() as folder:
             self.run_async(main(*self.contexts(folder)))
 
