@@ -2851,6 +2851,23 @@ class Bank(Case):
             finally:
                 bank.kill()
 
+    def test_it_is_called_from_a_shell(self):
+        """Fifty clients at once; texts, numbers and what is raised."""
+        with subprocess.Popen(example("bank.py", "0", "0.1"), stdout=subprocess.PIPE, text=True) as bank:
+            try:
+                reference = bank.stdout.readline().strip()
+                for words, wanted, status in (
+                        (["-n", "50", reference, "deposit", "sq", "q", "alice", "5"], range(5, 251, 5), 0),
+                        ([reference, "balance", "s", "q", "alice"], [250], 0),
+                        ([reference, "deposit", "sq", "q", "alice", "-251"], ["UserException('%s', ())" % OVERDRAWN], 1),
+                        ([reference, "none", "", ""], [repr(lr.SystemException("BAD_OPERATION", 0, lr.Completed.NO))], 1)):
+                    with self.subTest(words[-4:]):
+                        ran = subprocess.run(example("call.py", *words), capture_output=True, text=True, timeout=SECONDS)
+                        self.assertEqual((sorted(ran.stdout.split("\n")[:-1]), ran.stderr, ran.returncode),
+                                         (sorted(map(str, wanted)), "", status))
+            finally:
+                bank.terminate()
+
     async def play(self, reference):
         profile, dice = reference.profiles[0], Dice(SEED)
         cutter = Cutter(dice, profile.port)
