@@ -399,7 +399,8 @@ LR_API int64_t lr_server_asked(lr_server *server, lr_request *request, size_t si
 LR_API int64_t lr_server_part(lr_server *server, uint64_t ticket, uint32_t part, void *room, size_t size);
 
 /* Copies the data of a service context of the request that waits, counted from 0, as much of it as the room has octets,
- * gives its id (LR_CONTEXT_.. or another), and answers its size. LR_E_EMPTY, LR_E_IDLE, LR_E_NONE. */
+ * gives its id (LR_CONTEXT_.. or another), and answers its size. It passes over those before it, so to read all takes
+ * the square of their count, which a peer may make large: stop at some. LR_E_EMPTY, LR_E_IDLE, LR_E_NONE. */
 LR_API int64_t lr_server_context(lr_server *server, uint32_t index, uint32_t *id, void *room, size_t size);
 
 /* Parks the request of a ticket, which waits: it waits no more, and is answered later by the same ticket.
@@ -751,7 +752,7 @@ LR_API int64_t lr_assembler_message(lr_assembler *assembler, lr_message *message
 LR_API int64_t lr_assembler_part(lr_assembler *assembler, uint32_t part, void *room, size_t size);
 
 /* Copies the data of a service context of that message, counted from 0, as much of it as the room has octets, gives
- * its id, and answers its size. LR_E_EMPTY, LR_E_NONE. */
+ * its id, and answers its size; to read all takes as long as by lr_server_context. LR_E_EMPTY, LR_E_NONE. */
 LR_API int64_t lr_assembler_context(lr_assembler *assembler, uint32_t index, uint32_t *id, void *room, size_t size);
 
 /* ---- writing messages ---- */
