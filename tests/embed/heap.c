@@ -139,6 +139,7 @@ static bool perform(struct exchange *exchange) {
   }
   if (answer != LR_E_LOST) return WANT(answer, LR_OK);
   CHECK(tell());
+  WANT(lr_server_why(&server, connection), LR_WHY_MEMORY);
   lost_replies++;
   return false;
 }
@@ -149,6 +150,7 @@ static bool send(struct exchange *exchange) {
   int64_t taken = lr_server_feed(&server, connection, NOW, exchange->request.all, exchange->request.size);
   if (taken == LR_E_LOST) {
     CHECK(tell());
+    WANT(lr_server_why(&server, connection), LR_WHY_MEMORY);
     lost_feeds++;
     return false;
   }
@@ -335,6 +337,7 @@ static void is_due_or_lost(uint64_t on, const struct octets *wanted) {
   int64_t size = lr_server_output(&server, on, room, sizeof room);
   if (size == 0 && lr_server_is_closed(&server, on) == 1) {
     CHECK(tell());
+    WANT(lr_server_why(&server, on), LR_WHY_MEMORY);
     return;
   }
   CHECK(size >= 0 && equal(room, (size_t)size, wanted));
