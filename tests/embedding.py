@@ -1323,6 +1323,10 @@ BANKS = [bank_deposits_act_once, bank_refusals, bank_locates, bank_serves_a_hund
 FULL_BANKS = [*BANKS, bank_serves_beside_silent_peers]
 SLOW_BANKS = [slow_deposits_are_made_at_once, slow_deposits_act_once, slow_deposits_are_answered_in_any_order,
               slow_deposits_are_refused_for_now, slow_deposits_lapse, slow_bank_says_goodbye]
+# under valgrind
+WATCHED_BANKS = [bank_deposits_act_once, bank_refusals, bank_locates, bank_serves_a_hundred, bank_ends_streams,
+                 bank_says_goodbye]
+WATCHED_SLOW_BANKS = [slow_deposits_act_once, slow_deposits_are_answered_in_any_order]
 # over poll()
 POLLS = [bank_serves_a_hundred, bank_serves_beside_one_that_reads_nothing, bank_says_goodbye,
          bank_bears_want_of_descriptors]
@@ -1441,6 +1445,55 @@ class SlowBankCpp(Example, unittest.TestCase):
     """The bank in C++ whose deposits take their time."""
 
     NAME, SOURCES, FLAGS = "slow_bank_cpp", ["slow_bank.cpp"], ["-pthread"]
+
+
+class Watched(Example):
+    """An example under valgrind, which ends with another status where it finds anything."""
+
+    @classmethod
+    def setUpClass(cls) -> None:
+        programs.tool(VALGRIND[0])
+        paths = [os.path.join(EXAMPLES, source) for source in cls.SOURCES]
+        program = the_kit().compile(cls.NAME, paths, [f"-I{EXAMPLES}", "-pthread"])
+        cls.subject = program + "_watched"
+        with open(cls.subject, "w", encoding="ascii") as file:
+            file.write(f'#!/bin/sh\nexec {" ".join(VALGRIND)} {program} "$@"\n')
+        os.chmod(cls.subject, 0o755)
+
+
+@of_functions(WATCHED_BANKS)
+class WatchedBankC(Watched, unittest.TestCase):
+    """The bank in C."""
+
+    NAME, SOURCES = "watched_bank_c", ["bank.c", "loop.c"]
+
+
+@of_functions(WATCHED_BANKS)
+class WatchedBankCpp(Watched, unittest.TestCase):
+    """The bank in C++."""
+
+    NAME, SOURCES = "watched_bank_cpp", ["bank.cpp"]
+
+
+@of_functions(WATCHED_SLOW_BANKS)
+class WatchedSlowBankC(Watched, unittest.TestCase):
+    """The bank in C whose deposits take their time."""
+
+    NAME, SOURCES = "watched_slow_bank_c", ["slow_bank.c", "loop.c"]
+
+
+@of_functions(WATCHED_SLOW_BANKS)
+class WatchedSlowBankCpp(Watched, unittest.TestCase):
+    """The bank in C++ whose deposits take their time."""
+
+    NAME, SOURCES = "watched_slow_bank_cpp", ["slow_bank.cpp"]
+
+
+@of_functions([servants_answer_in_each_way])
+class WatchedServantsCpp(Watched, unittest.TestCase):
+    """The server in C++ whose servants answer in each way."""
+
+    NAME, SOURCES = "watched_servants_cpp", ["../tests/embed/servants.cpp"]
 
 
 class Threads(Example):
