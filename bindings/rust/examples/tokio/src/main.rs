@@ -11,7 +11,7 @@ use std::{collections::HashMap, env, io, net::IpAddr};
 use tokio::io::{copy, sink, AsyncReadExt, AsyncWriteExt};
 use tokio::net::{TcpListener, TcpStream};
 use tokio::signal::unix::{signal, SignalKind};
-use tokio::time::{sleep, timeout, Duration};
+use tokio::time::{interval, sleep, timeout, Duration};
 use tokio::{select, spawn, sync::watch, sync::Notify, task::JoinSet};
 
 const USAGE: &str = "usage: tokio-bank ADDRESS PORT [MILLISECONDS]";
@@ -214,9 +214,15 @@ async fn main() -> Result<(), Box<dyn std::error::Error>> {
 
     let (stop, stopped) = watch::channel(());
     let (mut peers, mut connection) = (JoinSet::new(), 0);
+    let mut seconds = interval(Duration::from_secs(1));
     loop {
         let mut stream = select! {
             _ = terminated.recv() => break,
+            _ = seconds.tick() => {
+                // (what expired is forgotten, though nobody asks)
+                bank.lock().unwrap().server.tick(Moment::now())?;
+                continue;
+            }
             Some(_) = peers.join_next() => continue,
             accepted = listener.accept() => match accepted {
                 Ok((stream, _)) => stream,
