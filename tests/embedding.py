@@ -189,6 +189,17 @@ def two_archives_link(kit: Kit) -> None:
         ran_well([kit.compile("two", [os.path.join(EMBED, "two.c")], [f"-I{EMBED}"], order)])
 
 
+def copies_live_side_by_side(kit: Kit) -> None:
+    """In one process: the shared library, and two plug-ins that keep the names of the archive inside them to themselves,
+    by a word of the linker or by LR_API."""
+    ways = {"plug_1.so": "-Wl,--exclude-libs,ALL", "plug_2.so": '-DLR_API=__attribute__((visibility("hidden")))'}
+    for name, word in ways.items():
+        run("cc", *C, f"-I{kit.include}", f"-I{EMBED}", "-shared", "-fPIC", os.path.join(EMBED, "plug.c"), kit.archive, word,
+            "-o", os.path.join(kit.work, name))
+    program = kit.compile("copies", [os.path.join(EMBED, "copies.c")], [f"-I{EMBED}"], [*kit.shared(), "-ldl"])
+    ran_well([program, *(os.path.join(kit.work, name) for name in ways)])
+
+
 def moved(kit: Kit) -> str:
     """A copy of all that is installed, in another folder."""
     folder = os.path.realpath(tempfile.mkdtemp(dir=kit.work))
@@ -1339,9 +1350,9 @@ GATEWAYS = [gateway_leads_to_itself, gateway_forwards_as_it_came, gateway_retrie
             gateway_refuses_what_it_cannot, gateway_takes_long_replies, gateway_forwards_without_a_reply,
             gateway_forwards_one_at_a_time, gateway_wants_a_reference]
 LIBRARY = [headers_stand_alone, declarations_can_be_marked, slots_are_closed_by_kind, programs_link, two_archives_link,
-           names_are_exported, releases_have_nodes, shared_library_says_how_it_is_loaded, heap_is_for_threads,
-           objects_are_for_threads, packages_are_found, packages_are_found_by_cmake, cmake_takes_versions_by_the_rule,
-           packages_are_made_below_a_root, versions_are_one]
+           copies_live_side_by_side, names_are_exported, releases_have_nodes, shared_library_says_how_it_is_loaded,
+           heap_is_for_threads, objects_are_for_threads, packages_are_found, packages_are_found_by_cmake,
+           cmake_takes_versions_by_the_rule, packages_are_made_below_a_root, versions_are_one]
 
 
 @functools.lru_cache(maxsize=None)
