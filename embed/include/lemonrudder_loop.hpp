@@ -13,6 +13,8 @@
  *     loop.listen("127.0.0.1", 2809);
  *     loop.serve();
  *
+ * Each of these calls says whether it failed, which is to be looked at: examples/bank.cpp does so.
+ *
  * All runs on the thread of serve(). A servant answers at once, or takes a Later of its request, by which any thread
  * may answer when the outcome is there; others are performed meanwhile. What the loop keeps is bounded: of a peer 20
  * KiB here, and in the server what its limits allow. Where memory is short for the loop's own, std::bad_alloc is
