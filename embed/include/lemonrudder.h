@@ -298,8 +298,8 @@ LR_API int64_t lr_catalogue_remove(lr_catalogue *catalogue, const void *key, siz
  * more, others are fed, and once its outcome is there it is answered as one that waits, by its ticket. Parked requests
  * are answered in any order. A repeat of one joins those who wait for its outcome; where so many wait already as
  * LR_SET_JOINED says, it is answered TRANSIENT and LR_COMPLETED_MAYBE. The replies become due on each connection where
- * somebody waits for them: lr_server_next_due names these. A parked request whose connection is lost, or whose
- * expiration passes, is answered all the same.
+ * somebody waits for them: lr_server_next_due names these. A parked request whose connection is lost, whose expiration
+ * passes, or that is cancelled is answered all the same.
  *
  * Each call that answers a request, parks it or gives it up takes its ticket, which a server gives to no other request:
  * so an outcome that comes late is not taken for that of another. Such a call answers the first of these that holds:

@@ -402,6 +402,27 @@ static void parked_outlive(void) {
   WANT(lr_server_count(&server, LR_COUNT_KEPT), 0);
 }
 
+/* A CancelRequest changes nothing, neither for the one that asked nor for a repeat that joined. */
+static void parked_are_not_cancelled(void) {
+  open_server();
+  connect(2);
+  uint64_t ticket = park(1, 7, 1);
+  join(2, 8, 1);
+  for (uint64_t connection = 1; connection <= 2; connection++) {
+    begin_message(&message, 2, LR_ORDER_BIG, LR_MSG_CANCEL_REQUEST);
+    put_number(&message, 6 + connection, 4);
+    end_message(&message);
+    WANT((int64_t)fed(connection), 0);
+    WANT(lr_server_output(&server, connection, room, sizeof room), 0);
+    WANT(lr_server_is_closed(&server, connection), 0);
+  }
+  WANT(lr_server_wanted(&server, ticket), 2);
+  WANT(answer(ticket, 1), LR_OK);
+  WANT(named(), 1 << 1 | 1 << 2);
+  replies(1, 7, 1);
+  replies(2, 8, 1);
+}
+
 /* ---- what is due ---- */
 
 /* While so much is due on a connection no more is taken of it; others are fed. */
@@ -766,6 +787,7 @@ int main(void) {
   parked_wait_for_what_waits();
   places_are_limited();
   parked_outlive();
+  parked_are_not_cancelled();
   due_is_limited();
   families_lead_many_keys();
   offers_change_while_requests_are_parked();
