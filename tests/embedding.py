@@ -846,10 +846,24 @@ def bank_serves_beside_silent_peers(bank: str) -> None:
             peer.wants(returned(index, 0))
         ask(serving.port, deposit(1, "bob", 5), returned(1, 5))
         gone = [peer for peer in peers if is_there(peer, CLOSE_CONNECTION)]
-        if not 1 <= len(gone) <= 10:
-            raise Wrong(f"{len(gone)} peers were told goodbye")
-        for peer in gone:
-            peer.ended()
+        want(len(gone), 1, "who were told goodbye")
+        gone[0].ended()
+
+
+def bank_is_full(bank: str) -> None:
+    """A thousand peers have a place, though they say nothing while the last of them come: nobody is told goodbye."""
+    let_open(4096)
+    with Serving(bank, "127.0.0.1", "0") as serving, contextlib.ExitStack() as stack:
+        peers = [stack.enter_context(Peer(serving.port)) for _ in range(995)]
+        for index, peer in enumerate(peers):
+            peer.tell(balance(index, "ann"))
+            peer.wants(returned(index, 0))
+        time.sleep(2.5)
+        for _ in range(5):
+            peers.append(stack.enter_context(Peer(serving.port)))
+            peers[-1].tell(balance(1, "ann"))
+            peers[-1].wants(returned(1, 0))
+        want([index for index, peer in enumerate(peers) if is_there(peer, CLOSE_CONNECTION)], [])
 
 
 def flood(port: int) -> None:
@@ -1331,7 +1345,7 @@ BANKS = [bank_deposits_act_once, bank_refusals, bank_locates, bank_serves_a_hund
          bank_sends_at_once, bank_bears_want_of_descriptors, bank_serves_beside_streams_that_ended,
          bank_drops_streams_that_ended]
 # .. which serve a thousand peers at most
-FULL_BANKS = [*BANKS, bank_serves_beside_silent_peers]
+FULL_BANKS = [*BANKS, bank_serves_beside_silent_peers, bank_is_full]
 SLOW_BANKS = [slow_deposits_are_made_at_once, slow_deposits_act_once, slow_deposits_are_answered_in_any_order,
               slow_deposits_are_refused_for_now, slow_deposits_lapse, slow_bank_says_goodbye]
 # under valgrind

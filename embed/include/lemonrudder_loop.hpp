@@ -520,7 +520,7 @@ class Loop {
   static constexpr std::size_t piece = 4096;
   static constexpr std::size_t step = 1024;
   static constexpr std::size_t room = 16384;
-  static constexpr std::chrono::microseconds slice{100};
+  static constexpr std::chrono::microseconds slice{25};
   static constexpr int sends = 4;
   static constexpr int accepts = 16;
   // what is waited for: the pipe by which the loop is woken, the socket that listens, and peers
@@ -765,8 +765,10 @@ class Loop {
         begin(std::move(socket));
         continue;
       }
-      // (without a place or descriptors the listener stays ready, and asking again would be in vain)
+      // (without a place or descriptors the listener stays ready, and asking again would be in vain; that one waits is
+      // known at first alone)
       is_full = is_full || errno == EMFILE || errno == ENFILE || errno == ENOBUFS || errno == ENOMEM;
+      if (count > 0) return;
       if (is_full && make_place()) continue;
       if (is_full) listen_for(false);
       return;
