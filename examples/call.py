@@ -3,8 +3,8 @@
 
 usage: call.py [-n CLIENTS] REFERENCE OPERATION ARGUMENTS RESULTS [VALUE ..]
 
-ARGUMENTS and RESULTS are formats of the package lemonrudder, and values are written as in Python, but that texts need no
-quotes: of a bank (bank.idl)
+ARGUMENTS and RESULTS are formats of the package lemonrudder, and values are written as in Python, but that texts need
+no quotes: of a bank (bank.idl)
 
     call.py -n 50 IOR:.. deposit sq q alice 5
 """

@@ -168,7 +168,7 @@ def slots_are_closed_by_kind(kit: Kit) -> None:
 
 
 def programs_link(kit: Kit) -> None:
-    """`cc main.c -llemonrudder` is all that a program needs, with either library; what is not called may be left out."""
+    """`cc main.c -llemonrudder` is all that a program needs, with either library; what is not called may go."""
     source, program = os.path.join(EMBED, "main.c"), os.path.join(kit.work, "main")
     search = {"LIBRARY_PATH": kit.lib, "CPATH": kit.include, "LD_LIBRARY_PATH": kit.lib}
     for words in (["-llemonrudder"], ["-Wl,-Bstatic", "-llemonrudder", "-Wl,-Bdynamic"], ["-static", "-llemonrudder"],
@@ -190,12 +190,12 @@ def two_archives_link(kit: Kit) -> None:
 
 
 def copies_live_side_by_side(kit: Kit) -> None:
-    """In one process: the shared library, and two plug-ins that keep the names of the archive inside them to themselves,
-    by a word of the linker or by LR_API."""
+    """In one process: the shared library, and two plug-ins that keep the names of the archive in them to themselves, by a
+    word of the linker or by LR_API."""
     ways = {"plug_1.so": "-Wl,--exclude-libs,ALL", "plug_2.so": '-DLR_API=__attribute__((visibility("hidden")))'}
     for name, word in ways.items():
-        run("cc", *C, f"-I{kit.include}", f"-I{EMBED}", "-shared", "-fPIC", os.path.join(EMBED, "plug.c"), kit.archive, word,
-            "-o", os.path.join(kit.work, name))
+        run("cc", *C, f"-I{kit.include}", f"-I{EMBED}", "-shared", "-fPIC", os.path.join(EMBED, "plug.c"), kit.archive,
+            word, "-o", os.path.join(kit.work, name))
     program = kit.compile("copies", [os.path.join(EMBED, "copies.c")], [f"-I{EMBED}"], [*kit.shared(), "-ldl"])
     ran_well([program, *(os.path.join(kit.work, name) for name in ways)])
 
@@ -404,8 +404,8 @@ def releases_have_nodes(kit: Kit) -> None:
     for where in (folder, kit.lib):
         want(run(paths["main"], env={"LD_LIBRARY_PATH": where}), "no error\n")
     want(run(paths["calls"], env={"LD_LIBRARY_PATH": folder}), "7\n")
-    ran = subprocess.run([paths["calls"]], env={**os.environ, "LD_LIBRARY_PATH": kit.lib}, capture_output=True, text=True,
-                         check=False, timeout=SECONDS)
+    ran = subprocess.run([paths["calls"]], env={**os.environ, "LD_LIBRARY_PATH": kit.lib}, capture_output=True,
+                         text=True, check=False, timeout=SECONDS)
     if ran.returncode == 0 or f"LEMONRUDDER_{later.replace('.', '_')}" not in ran.stderr or ran.stdout:
         raise Wrong(f"status {ran.returncode}, printed {ran.stdout!r} {ran.stderr!r}")
 

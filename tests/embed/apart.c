@@ -47,7 +47,8 @@ static bool call_often(lr_server *server, lr_client *client, struct done *done) 
   for (uint64_t call = 1; call <= CALLS; call++) {
     lr_completion completion;
     unsigned char body[8];
-    if (lr_client_call(client, NOW, LATER, "c", 1, "add", 3, one_long, 1, LR_ORDER_BIG, "\0\0\0\1", 4) < 0) return false;
+    if (lr_client_call(client, NOW, LATER, "c", 1, "add", 3, one_long, 1, LR_ORDER_BIG, "\0\0\0\1", 4) < 0)
+      return false;
     if (!exchange(server, client, 2 * call - 1, true, &done->total)) return false;
     if (!exchange(server, client, 2 * call, false, &done->total)) return false;
     if (lr_client_completed(client, &completion, sizeof completion) != 1) return false;

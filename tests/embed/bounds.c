@@ -1,6 +1,6 @@
 /*
- * What a server keeps in memory, whatever its peers send and however little they take, is at most what its limits add up
- * to. Peers send, by fixed seeds: messages that are never whole, messages in fragments, requests with many keys and
+ * What a server keeps in memory, whatever its peers send and however little they take, is at most what its limits add
+ * up to. Peers send, by fixed seeds: messages that are never whole, messages in fragments, requests with many keys and
  * their repeats, and requests without one; they seldom take what is due, and some are lost. Requests are answered at
  * once, parked or refused, and answered later. After each step what is allocated is compared with the sum.
  *

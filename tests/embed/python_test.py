@@ -2811,7 +2811,8 @@ class Tls(Case):
             reference = self.reference(self.closed_port(), first, second)
             tls = {"ssl": called, "server_hostname": "localhost", "delays": (0.001, 0.01)}
             async with server, lr.Client.of(reference, **tls) as client:
-                self.assertEqual([await client.call(client.key, "add", "l", [number], "l") for number in (7, 8)], [7, 15])
+                sums = [await client.call(client.key, "add", "l", [number], "l") for number in (7, 8)]
+            self.assertEqual(sums, [7, 15])
             self.assertEqual(performed, [(7, 1), (8, 2)])
             seen = hung_up + forwarded
             self.assertEqual({one[:3] for one in seen}, {(b"k", "add", 1)})
@@ -2856,13 +2857,15 @@ class Bank(Case):
         with subprocess.Popen(example("bank.py", "0", "0.1"), stdout=subprocess.PIPE, text=True) as bank:
             try:
                 reference = bank.stdout.readline().strip()
+                unknown = repr(lr.SystemException("BAD_OPERATION", 0, lr.Completed.NO))
                 for words, wanted, status in (
                         (["-n", "50", reference, "deposit", "sq", "q", "alice", "5"], range(5, 251, 5), 0),
                         ([reference, "balance", "s", "q", "alice"], [250], 0),
-                        ([reference, "deposit", "sq", "q", "alice", "-251"], ["UserException('%s', ())" % OVERDRAWN], 1),
-                        ([reference, "none", "", ""], [repr(lr.SystemException("BAD_OPERATION", 0, lr.Completed.NO))], 1)):
+                        ([reference, "deposit", "sq", "q", "alice", "-251"], [f"UserException('{OVERDRAWN}', ())"], 1),
+                        ([reference, "none", "", ""], [unknown], 1)):
                     with self.subTest(words[-4:]):
-                        ran = subprocess.run(example("call.py", *words), capture_output=True, text=True, timeout=SECONDS)
+                        ran = subprocess.run(example("call.py", *words), capture_output=True, text=True,
+                                             timeout=SECONDS)
                         self.assertEqual((sorted(ran.stdout.split("\n")[:-1]), ran.stderr, ran.returncode),
                                          (sorted(map(str, wanted)), "", status))
             finally:
