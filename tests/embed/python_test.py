@@ -2574,9 +2574,9 @@ class Addresses(Case):
 
     run_async, pair = Ends.run_async, Ends.pair
 
-    async def script(self, answers):
+    async def script(self, answers, **options):
         """A server that answers one request after another as a list says, a status and a body, or None: it hangs up.
-        Its port, and the key, operation, number and body of each request that came."""
+        Its port, and the key, operation, number and body of each request that came. `options` are the listener's."""
         seen = []
 
         async def serve(reader, writer):
@@ -2593,7 +2593,7 @@ class Addresses(Case):
                     writer.write(lr.write_reply(message.request_id, said[1], status=said[0]))
             writer.close()
 
-        listener = await asyncio.start_server(serve, "127.0.0.1", 0)
+        listener = await asyncio.start_server(serve, "127.0.0.1", 0, **options)
         self.addCleanup(listener.close)
         return listener.sockets[0].getsockname()[1], seen
 
@@ -2770,6 +2770,8 @@ class Tls(Case):
     """Both ends over TLS."""
 
     run_async = Ends.run_async
+    script, closed_port, reference, forward = (getattr(Addresses, name) for name in (
+        "script", "closed_port", "reference", "forward"))
 
     def contexts(self, folder):
         """Contexts of a server and of a client, which trust one certificate that both show."""
@@ -2808,6 +2810,31 @@ class Tls(Case):
         with tempfile.TemporaryDirectory() as folder:
             self.run_async(main(*self.contexts(folder)))
 
+    def test_all_addresses_and_a_forward(self):
+        """A call keeps its number over addresses at which nobody listens or that hang up, and over a forward."""
+        async def main(served, called):
+            def add(number):
+                performed.append((number, lr.current().retention_id))
+                return sum(each for each, _ in performed)
+
+            performed, server = [], lr.Server()
+            server.add("there", "IDL:K:1.0", {"add": ("l", "l", add)})
+            led = self.forward(self.closed_port(), await server.listen(ssl=served), key="there")
+            first, hung_up = await self.script([None, None], ssl=served)
+            second, forwarded = await self.script([None, led], ssl=served)
+            reference = self.reference(self.closed_port(), first, second)
+            tls = {"ssl": called, "server_hostname": "localhost", "delays": (0.001, 0.01)}
+            async with server, lr.Client.of(reference, **tls) as client:
+                sums = [await client.call(client.key, "add", "l", [number], "l") for number in (7, 8)]
+            self.assertEqual(sums, [7, 15])
+            self.assertEqual(performed, [(7, 1), (8, 2)])
+            seen = hung_up + forwarded
+            self.assertEqual({one[:3] for one in seen}, {(b"k", "add", 1)})
+            self.assertGreater(len(hung_up), 0)
+            self.assertEqual(len(forwarded), 2)
+        with tempfile.TemporaryDirectory() as folder:
+            self.run_async(main(*self.contexts(folder)))
+
 
 class Bank(Case):
     """The bank of the examples, whose clients lose their connections."""
@@ -2838,6 +2865,25 @@ class Bank(Case):
                 self.assertEqual(bank.wait(SECONDS), 0)
             finally:
                 bank.kill()
+
+    def test_it_is_called_from_a_shell(self):
+        """Fifty clients at once; texts, numbers and what is raised."""
+        with subprocess.Popen(example("bank.py", "0", "0.1"), stdout=subprocess.PIPE, text=True) as bank:
+            try:
+                reference = bank.stdout.readline().strip()
+                unknown = repr(lr.SystemException("BAD_OPERATION", 0, lr.Completed.NO))
+                for words, wanted, status in (
+                        (["-n", "50", reference, "deposit", "sq", "q", "alice", "5"], range(5, 251, 5), 0),
+                        ([reference, "balance", "s", "q", "alice"], [250], 0),
+                        ([reference, "deposit", "sq", "q", "alice", "-251"], [f"UserException('{OVERDRAWN}', ())"], 1),
+                        ([reference, "none", "", ""], [unknown], 1)):
+                    with self.subTest(words[-4:]):
+                        ran = subprocess.run(example("call.py", *words), capture_output=True, text=True,
+                                             timeout=SECONDS)
+                        self.assertEqual((sorted(ran.stdout.split("\n")[:-1]), ran.stderr, ran.returncode),
+                                         (sorted(map(str, wanted)), "", status))
+            finally:
+                bank.terminate()
 
     async def play(self, reference):
         profile, dice = reference.profiles[0], Dice(SEED)
