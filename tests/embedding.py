@@ -10,7 +10,6 @@ import atexit
 import contextlib
 import functools
 import itertools
-import multiprocessing
 import os
 import random
 import re
@@ -20,7 +19,6 @@ import signal
 import socket
 import subprocess
 import tempfile
-import threading
 import time
 import unittest
 from collections.abc import Callable, Iterator
@@ -655,7 +653,7 @@ def bank_sends_at_once(bank: str) -> None:
             peer.tell(asked)
             peer.wants(answers)
             took.append(time.monotonic() - began)
-    if sorted(took)[len(took) // 2] > 0.03:
+    if min(took) > 0.03:
         raise Wrong(f"a hundred answers took {sorted(took)}")
 
 
@@ -711,6 +709,17 @@ def is_there(peer: Peer, octets: bytes) -> bool:
         peer.socket.settimeout(SECONDS)
 
 
+def has_come(peer: Peer) -> bool:
+    """Whether something has come on a connection, which stays there."""
+    peer.socket.setblocking(False)
+    try:
+        return bool(peer.socket.recv(1, socket.MSG_PEEK))
+    except BlockingIOError:
+        return False
+    finally:
+        peer.socket.settimeout(SECONDS)
+
+
 def is_refused(peer: Peer) -> bool:
     """Whether the other end of a connection takes nothing more, since it has closed it."""
     peer.socket.setblocking(False)
@@ -742,7 +751,6 @@ def bank_tells_idle_peers_goodbye(bank: str) -> None:
             busy.wants(returned(index, 0))
             time.sleep(0.2)
         for peer in (silent, half):
-            peer.socket.settimeout(1)
             peer.wants(CLOSE_CONNECTION)
             peer.ended()
 
@@ -776,45 +784,38 @@ def bank_serves_beside_silent_peers(bank: str) -> None:
             peer.ended()
 
 
-def flood(port: int) -> None:
-    """Sends requests as fast as they are answered, until it is ended."""
-    def take() -> None:
-        while peer.socket.recv(1 << 16):
-            pass
-
-    octets = balance(1, "ann") * 500
-    with Peer(port) as peer:
-        threading.Thread(target=take, daemon=True).start()
-        while True:
-            peer.tell(octets)
+@contextlib.contextmanager
+def stopped(process: int) -> Iterator[None]:
+    """Meanwhile a process does nothing, so that what is sent to it comes at once."""
+    os.kill(process, signal.SIGSTOP)
+    until(lambda: state_of(process) == "T", "it was not stopped")
+    try:
+        yield
+    finally:
+        os.kill(process, signal.SIGCONT)
 
 
-def middle_of(port: int, count: int) -> float:
-    """How long a request takes, in the middle of so many."""
-    took = []
-    with Peer(port) as peer:
-        for index in range(count):
-            began = time.monotonic()
-            peer.tell(balance(index, "ann"))
-            peer.wants(returned(index, 0))
-            took.append(time.monotonic() - began)
-    return sorted(took)[count // 2]
+def state_of(process: int) -> str:
+    with open(f"/proc/{process}/stat", encoding="ascii") as file:
+        return file.read().rpartition(")")[2].split()[0]
 
 
 def bank_is_fair(bank: str) -> None:
-    """One peer that sends requests without an end makes another one wait five times as long as alone, or less."""
-    with Serving(bank, "127.0.0.1", "0") as serving:
-        for _ in range(3):  # (other processes may take the processors)
-            alone = middle_of(serving.port, 500)
-            flooding = multiprocessing.get_context("fork").Process(target=flood, args=(serving.port,), daemon=True)
-            flooding.start()
-            time.sleep(0.2)
-            beside = middle_of(serving.port, 500)
-            flooding.kill()
-            flooding.join()
-            if beside <= 5 * alone:
-                return
-        raise Wrong(f"a request takes {beside} s, and {alone} s alone")
+    """Of what one peer sent before another one, two turns are taken at most before the other one is answered."""
+    flood, most = [deposit(index, "ann", 1) for index in range(500)], 0
+    turn = 4096 // len(flood[0]) + 1
+    with Serving(bank, "127.0.0.1", "0") as serving, Peer(serving.port) as first, Peer(serving.port) as other:
+        for peer in (first, other):
+            peer.tell(balance(1, "bob"))
+            peer.wants(returned(1, 0))
+        for before in range(0, 20 * len(flood), len(flood)):
+            with stopped(serving.process.pid):
+                first.tell(b"".join(flood))
+                other.tell(balance(1, "ann"))
+            most = max(most, int.from_bytes(other.message().body, "big") - before)
+            first.wants(b"".join(returned(index, before + index + 1) for index in range(len(flood))))
+    if not 0 < most <= 2 * turn:
+        raise Wrong(f"{most} of {len(flood)} requests were performed before that of the other one")
 
 
 # ---- the banks whose deposits take their time ----
@@ -827,20 +828,19 @@ def slow(bank: str, milliseconds: int) -> Iterator[Serving]:
 
 
 def slow_deposits_are_made_at_once(bank: str) -> None:
-    """Deposits of 64 clients at once take little more than one; meanwhile balances are told at once."""
-    with slow(bank, 1000) as serving, contextlib.ExitStack() as stack:
+    """Deposits of 64 clients at once take less than two in a row; balances that are asked meanwhile are told before."""
+    with slow(bank, 3000) as serving, contextlib.ExitStack() as stack:
         peers = [stack.enter_context(Peer(serving.port)) for _ in range(64)]
         began = time.monotonic()
         for index, peer in enumerate(peers):
             peer.tell(deposit(index, "ann", 1, number=index))
         for index in range(10):
             ask(serving.port, balance(index, "ann"), returned(index, 0))
-        told = time.monotonic() - began
         balances = sorted(int.from_bytes(peer.message().body, "big") for peer in peers)
         took = time.monotonic() - began
         want(balances, list(range(1, 65)))
-        if not told < 1 <= took < 2:
-            raise Wrong(f"ten balances took {told} s, 64 deposits {took} s")
+        if not 3 <= took < 6:
+            raise Wrong(f"64 deposits took {took} s")
 
 
 def slow_deposits_act_once(bank: str) -> None:
@@ -860,7 +860,7 @@ def slow_deposits_act_once(bank: str) -> None:
 
 def slow_deposits_are_answered_in_any_order(bank: str) -> None:
     """On one connection: what is asked behind a deposit is answered before it."""
-    with slow(bank, 300) as serving, Peer(serving.port) as peer:
+    with slow(bank, 1000) as serving, Peer(serving.port) as peer:
         peer.tell(deposit(1, "ann", 5) + balance(2, "ann") + deposit(3, "bob", 7) + balance(4, "bob"))
         peer.wants(returned(2, 0) + returned(4, 0))
         want(sorted((it.request_id, it.body[-1]) for it in (peer.message(), peer.message())), [(1, 5), (3, 7)])
@@ -924,13 +924,11 @@ def slow_bank_says_goodbye(bank: str) -> None:
             peer.tell(deposit(1, f"account {index}", 5) + deposit(2, f"account {index}", 5) + locate_bank())
             peer.wants(giop.located(1, 1))
         serving.stop()
-        began = time.monotonic()
         idle.wants(CLOSE_CONNECTION)
         idle.ended()
+        want([has_come(peer) for peer in peers], [False] * len(peers), "what came before the goodbye to the idle one")
         for peer in peers:
             peer.tell(deposit(3, "nobody", 5))  # (it comes after the goodbye, and means nothing)
-        if time.monotonic() - began > 1:
-            raise Wrong("the goodbye to a peer that waits for nothing came late")
         for peer in peers:
             want(sorted((it.request_id, it.status) for it in (peer.message(), peer.message())), [(1, 0), (2, 0)])
             peer.wants(CLOSE_CONNECTION)
