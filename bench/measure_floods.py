@@ -81,7 +81,8 @@ def measure(server, floods, given):
                     rows.append((alone, call_time(port, given.count)))
                     peer.kill()
             alone, beside = (statistics.median(row[at] for row in rows) for at in (0, 1))
-            print(f"  {name:<20}{alone:8.0f} us{beside:8.0f} us  {statistics.median(b / a for a, b in rows):5.1f}", flush=True)
+            ratio = statistics.median(beside / alone for alone, beside in rows)
+            print(f"  {name:<20}{alone:8.0f} us{beside:8.0f} us  {ratio:5.1f}", flush=True)
         serving.kill()
 
 

@@ -160,6 +160,21 @@ def slots_are_closed_by_kind(kit: Kit) -> None:
             want(closed == given, True)
 
 
+def texts_are_literals(kit: Kit) -> None:
+    """LR_TEXT gives the octets of a literal, those after a NUL too, and takes nothing else."""
+    text = ('#include "lemonrudder.h"\nstatic size_t size(const void *at, size_t size) { return at ? size : 0; }\n'
+            'size_t f(const char *name);\nsize_t f(const char *name) { (void)name; return size(LR_TEXT(%s)); }\n')
+    compile_text(kit, text % '"a\\0b" "c"', "cc", "c99")
+    try:
+        compile_text(kit, text % "name", "cc", "c99")
+    except Wrong:
+        pass
+    else:
+        raise Wrong("LR_TEXT takes a pointer")
+    check = '#include "lemonrudder.h"\n#define SIZE_OF(at, size) size\n#define SIZE(pair) SIZE_OF(pair)\n'
+    compile_text(kit, check + 'typedef char four[SIZE(LR_TEXT("a\\0b" "c")) == 4 ? 1 : -1];\n', "cc", "c99")
+
+
 def programs_link(kit: Kit) -> None:
     """`cc main.c -llemonrudder` is all that a program needs, with either library."""
     source, program = os.path.join(EMBED, "main.c"), os.path.join(kit.work, "main")
@@ -965,6 +980,12 @@ def long_replies_are_bounded(server: str) -> None:
             peers[0].wants(reply(index, body))
 
 
+def loop_settles_each_tick(server: str) -> None:
+    """With ticks of 25 milliseconds: forty of them take a second, and not forty."""
+    with Serving(server, "127.0.0.1", "0") as serving:
+        ask(serving.port, request(1, b"long", "later"), reply(1))
+
+
 # ---- the loop for C++ ----
 
 def servants_answer_in_each_way(server: str) -> None:
@@ -1217,8 +1238,8 @@ GATEWAYS = [gateway_leads_to_itself, gateway_forwards_as_it_came, gateway_retrie
             gateway_says_maybe, gateway_refuses_what_was_not_begun, gateway_comes_back,
             gateway_refuses_what_it_cannot, gateway_takes_long_replies, gateway_forwards_without_a_reply,
             gateway_forwards_one_at_a_time, gateway_wants_a_reference]
-LIBRARY = [headers_stand_alone, declarations_can_be_marked, slots_are_closed_by_kind, programs_link, two_archives_link,
-           names_are_exported, shared_library_says_how_it_is_loaded, heap_is_for_threads, packages_are_found,
+LIBRARY = [headers_stand_alone, declarations_can_be_marked, slots_are_closed_by_kind, texts_are_literals,
+           programs_link, two_archives_link, names_are_exported, shared_library_says_how_it_is_loaded, heap_is_for_threads, packages_are_found,
            packages_are_found_by_cmake, cmake_takes_versions_by_the_rule, packages_are_made_below_a_root,
            versions_are_one]
 
@@ -1388,6 +1409,14 @@ class LongC(Plain, unittest.TestCase):
 
     NAME, SOURCES = "long_c", ["long.c", "../../examples/loop.c"]
     FOLDER, FLAGS = EMBED, [f"-I{EXAMPLES}"]
+
+
+@of_functions([loop_settles_each_tick])
+class TickC(Plain, unittest.TestCase):
+    """The same server, whose loop has short ticks."""
+
+    NAME, SOURCES = "tick_c", ["long.c", "../../examples/loop.c"]
+    FOLDER, FLAGS = EMBED, [f"-I{EXAMPLES}", "-DLOOP_TICK=25"]
 
 
 @of_functions(LONGS)

@@ -1595,7 +1595,7 @@ class Ends(Case):
                 if len(asked) == 1:
                     raise lr.Refuse("NO_RESOURCES", 7)
                 if len(asked) < 4:
-                    raise lr.Refuse("unheard of")
+                    raise lr.Refuse
                 return number
 
             server, client = await self.pair({"op": ("l", "l", function)})
@@ -1609,6 +1609,26 @@ class Ends(Case):
                 # (of TRANSIENT the client knows that it may send it again)
                 self.assertEqual(await client.call("k", "op", "l", [5], "l"), 5)
                 self.assertEqual((server.connections, len(asked)), (2, 4))
+        self.run_async(main())
+
+    def test_a_reply_has_the_results_and_no_more(self):
+        async def main():
+            def fails():
+                raise lr.UserException("IDL:X:1.0", [7, 8])
+
+            operations = {"get": ("", "ls", lambda: (5, "text")), "none": ("", "", lambda: None),
+                          "fails": ("", "", fails)}
+            server, client = await self.pair(operations, {"fails": {"IDL:X:1.0": "ll"}})
+            async with server, client:
+                for results, left in (("", 13), ("l", 9), ("lL", 5)):
+                    more = f"{left} octets more"
+                    with self.subTest(results), self.assertRaisesRegex(lr.LemonrudderError, more) as caught:
+                        await client.call("k", "get", results=results)
+                    self.assertIs(caught.exception.number, Error.VALUE)
+                with self.assertRaisesRegex(lr.LemonrudderError, "4 octets more than 'l'"):
+                    await client.call("k", "fails", raises={"IDL:X:1.0": "l"})
+                self.assertEqual(await client.call("k", "get", results="ls"), (5, "text"))
+                self.assertIsNone(await client.call("k", "none"))
         self.run_async(main())
 
     def test_many_calls_at_once(self):
@@ -2171,6 +2191,10 @@ class Waits(Case):
                 self.assertEqual(performed, [8])
         self.run_async(main())
 
+    def test_a_refusal_has_a_name_of_the_standard(self):
+        with self.assertRaises(ValueError):
+            lr.Refuse("NO_SUCH_NAME")
+
     def test_members_of_an_exception_are_values(self):
         """One text is not taken for the letters of it."""
         for values in "bob", b"bob":
@@ -2537,7 +2561,8 @@ class Bounds(Case):
             server, client = await self.pair({"slow": ("", "", slow), "get": ("", "l", lambda: 1)}, max_parked=8)
             clients = [lr.Client(client.host, client.port, delays=(0.001, 0.01)) for _ in range(6)]
             async with server, client:
-                calls = [one.call("k", ("slow", "get")[number % 3 == 0]) for number in range(30) for one in clients]
+                calls = [one.call("k", "get", results="l") if number % 3 == 0 else one.call("k", "slow")
+                         for number in range(30) for one in clients]
                 await asyncio.gather(*calls)
                 for one in clients:
                     await one.close()
@@ -2633,10 +2658,12 @@ class Bounds(Case):
                     wire.come(none)
                 for number in range(20):
                     server._lines.write(wire.connection, logging.INFO, "%d", number)
-        invalid = "a request is refused on {} (local): there is no such object or operation, or its arguments are not valid"
+        invalid = ("a request is refused on {} (local): there is no such object or operation, or its arguments are not "
+                   "valid")
         raised, wanted = "'fails' raised KeyError", []
         for one in ("connection 1", "connection 2"):
-            wanted += [invalid.format(one), raised, f"{invalid.format(one)} (299 times more)", f"{raised} (299 times more)"]
+            lines = invalid.format(one), raised
+            wanted += [*lines, *(f"{line} (299 times more)" for line in lines)]
         wanted += [*map(str, range(14)), f"{invalid.format('connection 1')} (1 times more)",
                    f"{invalid.format('connection 2')} (1 times more)",
                    "other lines about connection 2 (local) are left out (6 times more)"]

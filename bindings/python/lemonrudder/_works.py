@@ -121,7 +121,7 @@ class Works:
         """Parks the request that waits, for a task to perform it; refuses it where that can't be."""
         why = None
         if len(self.works) >= self._most:
-            why = "as many are under way as may be (max_parked)"
+            why = f"{self._most} operations are under way already (max_parked)"
         else:
             try:
                 self._server._engine.park()
@@ -130,8 +130,8 @@ class Works:
                 why = error.text if error.number != Error.IDLE else None
         coroutine = returned if inspect.iscoroutine(returned) else None
         if why is not None:
-            self._server._lines.write(connection, logging.WARNING, "%a is refused on %s: %s", asked.operation, connection,
-                                      why)
+            self._server._lines.write(connection, logging.WARNING, "%a is refused on %s: %s", asked.operation,
+                                      connection, why)
             if coroutine is not None:
                 coroutine.close()
                 self._answer(asked, "UNKNOWN", self._server._engine.refuse, "TRANSIENT")
@@ -227,7 +227,6 @@ class Works:
         write = partial(self._server._lines.write, connection)
         if isinstance(raised, (Refuse, GiveUp)):
             name = raised.name if isinstance(raised, Refuse) else "TRANSIENT"
-            name = name if name in SystemName.__members__ else "TRANSIENT"
             write(logging.INFO, "%a is refused on %s: %s", asked.operation, connection, name)
             if isinstance(raised, GiveUp) and self._waits(asked.ticket):
                 self._contexts.pop(asked.ticket, None)
