@@ -25,6 +25,8 @@
 enum { PIECE = 4096, STEP = 1024, ROOM = 16384, SENDS = 4, ACCEPTS = 16, SLICE = 25000 };
 /* Seconds: what a peer has to close once its stream has ended, and a pause where nobody can be accepted. */
 enum { LINGER = 5, PAUSE = 1 };
+/* Nanoseconds from one call of `settle` to the next. */
+static const int64_t TICK = INT64_C(1000000) * LOOP_TICK;
 /* What is waited for: the pipe by which the loop is woken, the socket that listens, and peers. */
 enum { WAKE = 0, LISTENER = 1, FIRST = 2, SLOTS = FIRST + LOOP_PEERS };
 
@@ -414,13 +416,16 @@ int loop_serve(lr_server *server, int listener, void (*perform)(lr_server *serve
                void (*settle)(lr_server *server)) {
   bool is_well = open_loop(server, listener);
   int64_t last = seconds(), end = INT64_MAX; /* (which is set at SIGTERM) */
+  int64_t tick = nanoseconds() / TICK; /* (all begin at multiples of their length) */
   performs = perform;
   while (is_well && (end == INT64_MAX || unused_count < LOOP_PEERS) && last < end) {
     size_t before = turn_count;
     is_called = is_woken = false;
-    is_well = wait_for(before > 0 ? 0 : 1000);
+    is_well = wait_for(before > 0 ? 0 : (int)((TICK - nanoseconds() % TICK) / 1000000) + 1);
     int64_t second = seconds(); /* (performing may take long, and what comes meanwhile is read by the next turn) */
-    if (settle != NULL && (is_woken || second != last)) settle(server);
+    int64_t now = nanoseconds() / TICK;
+    if (settle != NULL && (is_woken || now != tick)) settle(server);
+    tick = now;
     go_on();
     put_back(before);
     take_turns();

@@ -229,6 +229,12 @@ enum {
   LR_TYPE_DOUBLE = LR_TYPE_ULONGLONG
 };
 
+/* A string literal as octets: a pointer and a size, two arguments of a call. */
+#define LR_TEXT(literal) ("" literal), (sizeof("" literal) - 1)
+
+/* How much greater the moment of a second later is. */
+#define LR_SECOND UINT64_C(10000000)
+
 /* A moment, of seconds and nanoseconds since 1970-01-01 00:00 UTC. The greatest, where it lies beyond. */
 LR_API uint64_t lr_moment(uint64_t seconds, uint32_t nanoseconds);
 

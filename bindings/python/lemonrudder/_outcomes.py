@@ -50,10 +50,12 @@ class Refuse(Exception):
     """Raised by a servant that refuses a request for now and has done nothing: the answer is a system exception with
     COMPLETED_NO, nothing is kept, and it is asked again when the request is sent again. The connection stays.
 
-    name: a name of SystemName; a server answers any other as TRANSIENT. minor: its minor code.
+    name: a name of SystemName. minor: its minor code. Raises ValueError: there is no such name.
     """
 
     def __init__(self, name: str = "TRANSIENT", minor: int = 0) -> None:
+        if name not in SystemName.__members__:
+            raise ValueError(f"no name of SystemName: {name!r}")
         self.name, self.minor = name, minor
         super().__init__(self.name, self.minor)
 
