@@ -20,7 +20,6 @@ import sys
 import tempfile
 import time
 import unittest
-import unittest.mock
 from unittest import mock
 
 from scripts.library import VERSION, serves
@@ -2627,7 +2626,7 @@ class Bounds(Case):
                 self.assertEqual(await reader.read(), b"")
                 await self.drained(server, 0)
                 writer.close()
-        with unittest.mock.patch("lemonrudder._server._SWEEP", 0.01):
+        with mock.patch.object(_server, "_SWEEP", 0.01):
             self.run_async(main())
 
     def test_what_is_told(self):
