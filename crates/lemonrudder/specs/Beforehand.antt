@@ -16,7 +16,7 @@ use Rattle.lemonrudder.specs.Outcomes.{AreMembers, AreResults, ByName, CanBe, ex
 use Rattle.lemonrudder.specs.Questions.{Tells, TellsNone}
 use Rattle.lemonrudder.specs.RawCalls.{AreContexts}
 use Rattle.lemonrudder.specs.Replying.{Contexts, IsSaid, IsWhyUnsaid}
-use Rattle.lemonrudder.specs.Serves.{ByFound, KeepsDue}
+use Rattle.lemonrudder.specs.Serves.{ByFound, KeepsDue, KeepsNotes}
 use Rattle.lemonrudder.specs.Tickets.{named_by}
 
 -- a call by a ticket is refused where nothing that waits or is parked has it, and else does this by what has it
@@ -55,7 +55,7 @@ OnException ticket id order octets room new s t r = ByName (order_named order) s
 -- service contexts are said for the replies that the next answer of a ticket makes due, and nothing else changes; or octets are none, or memory
 -- is short, and nothing has changed
 abbrev pub Says : ℕ → Order → List ℕ → Serving → Serving → Result ℕ Refusal → Type 0
-Says ticket order octets s t (Ok n) = (n ≡ 0) × ((all : Contexts) × AreContexts order all octets) × (t.engine ≡ s.engine) × KeepsDue s t × (t.setup ≡ record s.setup { said = t.setup.said }) × IsSaid ticket order octets t.setup.said
+Says ticket order octets s t (Ok n) = (n ≡ 0) × ((all : Contexts) × AreContexts order all octets) × (t.engine ≡ s.engine) × KeepsDue s t × KeepsNotes s t × (t.setup ≡ record s.setup { said = t.setup.said }) × IsSaid ticket order octets t.setup.said
 Says ticket order octets s t (Err e) = (t ≡ s) × IsWhyUnsaid order octets e
 
 -- .. of a request that waits or is parked

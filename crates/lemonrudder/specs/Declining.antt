@@ -22,8 +22,9 @@ use Rattle.lemonrudder.specs.Late.{ForgetsLate, WhereAsks}
 use Rattle.lemonrudder.specs.Naming.{system_name_named}
 use Rattle.lemonrudder.specs.Outcomes.{ByName}
 use Rattle.lemonrudder.specs.Refusals.{refusal_of_serving}
-use Rattle.lemonrudder.specs.Serves.{ByCalled, ByTicket, ChangesDue, IsIdle, IsSame, KeepsCatalogue, KeepsTickets, NotesWhy, done_of, owed_on}
+use Rattle.lemonrudder.specs.Serves.{ByCalled, ByTicket, ChangesDue, EndsIfShort, IsIdle, IsSame, KeepsCatalogue, KeepsParked, NotesWhy, done_of, owed_on}
 use Rattle.lemonrudder.specs.Settling.{Withdraws}
+use Rattle.lemonrudder.specs.Tallied.{one_declined, one_given_up}
 
 -- The refusal is due after what was, where a reply is wished for, and nothing is kept. Or memory is short for it: the request is given
 -- up, and nothing more is due.
@@ -36,7 +37,7 @@ Declines c outcome s t (Err e) = (owed_on t c ≡ owed_on s c) × (n : ℕ) × (
 
 -- the request that waits, which came on a connection, is refused
 abbrev pub DeclinesAsked : ℕ → Performed → Serving → Serving → Result ℕ Refusal → Type 0
-DeclinesAsked c outcome s t r = (o : Result (Unit {0}) ServeError) × (r ≡ done_of 0 refusal_of_serving o) × IsIdle t × ChangesDue c s t × KeepsCatalogue s t × KeepsTickets s t × Declines c outcome s t o × NotesWhy c s t
+DeclinesAsked c outcome s t r = (o : Result (Unit {0}) ServeError) × (r ≡ done_of 0 refusal_of_serving o) × IsIdle t × ChangesDue c s t × KeepsCatalogue s t × KeepsParked one_declined s t × Declines c outcome s t o × NotesWhy c s t × EndsIfShort c s.engine t.engine o
 
 -- .. or one that is parked
 abbrev pub Refuses : Found → Performed → Serving → Serving → Result ℕ Refusal → Type 0
@@ -53,5 +54,5 @@ abbrev pub OnGoodbye : ℕ → Serving → Serving → Result ℕ Refusal → Ty
 OnGoodbye ticket s t r = ByTicket ticket s t r (λ w.
     (0 < waits_on s.engine w.connection → (r ≡ Err refusal.Parks) × IsSame s t)
     × (waits_on s.engine w.connection ≡ 0 → ((r ≡ Err refusal.Memory) × IsSame s t)
-    ⊎ ((r ≡ Ok 0) × IsIdle t × ChangesDue w.connection s t × (owed_on t w.connection ≡ owed_on s w.connection ++ close_connection) × KeepsCatalogue s t × KeepsTickets s t × (n : ℕ) × ForgetsLate n s t
+    ⊎ ((r ≡ Ok 0) × IsIdle t × ChangesDue w.connection s t × (owed_on t w.connection ≡ owed_on s w.connection ++ close_connection) × KeepsCatalogue s t × KeepsParked one_given_up s t × (n : ℕ) × ForgetsLate n s t
     × EndsLast t.engine w.connection GivenUp × NotesWhy w.connection s t)))

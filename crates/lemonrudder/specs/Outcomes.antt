@@ -31,9 +31,10 @@ use Rattle.lemonrudder.specs.Late.{AnswersLate}
 use Rattle.lemonrudder.specs.Naming.{completion_named, order_named, raw_status_named, system_name_named}
 use Rattle.lemonrudder.specs.Refusals.{refusal_of_serving}
 use Rattle.lemonrudder.specs.Replying.{AreCarried, AreSaid, Contexts, left_for, said_for}
-use Rattle.lemonrudder.specs.Serves.{ByCalled, ChangesDue, IsIdle, IsRefused, IsSame, KeepsCatalogue, KeepsTickets, NotesWhy, done_of, owed_on}
+use Rattle.lemonrudder.specs.Serves.{ByCalled, ChangesDue, EndsIfShort, IsIdle, IsRefused, IsSame, KeepsCatalogue, KeepsParked, NotesWhy, done_of, owed_on}
 use Rattle.lemonrudder.specs.Settling.{Settles}
 use Rattle.lemonrudder.specs.Spelled.{AreValues}
+use Rattle.lemonrudder.specs.Tallied.{one_answered}
 
 -- an outcome may be that of the request, which waits or is parked, as its operation is on offer now
 abbrev pub CanBe : Found → Performed → Serving → Type 0
@@ -47,7 +48,7 @@ Sends c outcome said s t o = (carried : Contexts) × AreCarried said carried (as
 -- an outcome of the request that waits, which came on a connection, is kept, if it is to be, and n is answered
 abbrev pub AnswersAsked : (c n : ℕ) → Performed → (said : Contexts) → Serving → Serving → Result ℕ Refusal → Type 0
 AnswersAsked c n outcome said s t r =
-    (o : Result (Unit {0}) ServeError) × (r ≡ done_of n refusal_of_serving o) × IsIdle t × ChangesDue c s t × KeepsCatalogue s t × KeepsTickets s t × Sends c outcome said s t o × AnswersLate c outcome s t o × NotesWhy c s t
+    (o : Result (Unit {0}) ServeError) × (r ≡ done_of n refusal_of_serving o) × IsIdle t × ChangesDue c s t × KeepsCatalogue s t × KeepsParked one_answered s t × Sends c outcome said s t o × AnswersLate c outcome s t o × NotesWhy c s t × EndsIfShort c s.engine t.engine o
 
 -- .. of one that waits or is parked
 abbrev pub Answers : Found → (n : ℕ) → Performed → (said : Contexts) → Serving → Serving → Result ℕ Refusal → Type 0

@@ -24,7 +24,7 @@ returns c = (
       c.tell_all.ensures.done (subst (λ (o : Option Performed). IsSome o) (sym c.withdraw.ensures.told) refl),
       λ q apart. let a = c.tell_all.ensures.others q apart in let b = c.withdraw.ensures.others q apart in (a.0 ∙ b.0, a.1 ∙ b.1),
     ),
-    λ x held calls past waiting st.
+    (λ x held calls past waiting st.
         let y = c.withdraw.ensures.late x held calls past waiting st in
         let so = c.tell_all.ensures.late x held calls (Withdrew y.i ∷ past) waiting (not_now c.args.name c.args.minor) (λ w. []) (carries-none (not_now c.args.name c.args.minor)) y.stays c.withdraw.ensures.told in
         let same = y.stays.parks.once so.i y.i c.args.number so.taken y.taken so.was y.was in (
@@ -36,6 +36,7 @@ returns c = (
           told-from x held calls c.args.number (λ w. []) (not_now c.args.name c.args.minor) so.told _ so.last c.args.self.now _ c.tell_all.new.self refl refl so.are_told,
           so.none,
           subst (λ (i : ℕ). Stays families_offer x (put_at i (known (not_now c.args.name c.args.minor)) held) calls c.tell_all.new.self.engine so.last.past so.last.waiting) same so.stays,
-        ),
+        )),
+    c.tell_all.ensures.counts ∙ c.withdraw.ensures.counted,
   ),
 )
