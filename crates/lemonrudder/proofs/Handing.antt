@@ -1,5 +1,5 @@
 -- What comes of an outcome: by what waits, by the octets that are read, and by the numbers that name its parts.
-use Rattle.std.proofs.Common.{◌≡◌, ◌==◌, ◌∙◌, ◌↔◌, if◌then◌else◌, Bool, true, false, ℕ, List, [], ◌∷◌, length, Option, Some, None, IsSome, IsTrue, Result, Ok, Err, Bor, Vec, Global, map, inl, inr, ap, refl, subst, sym}
+use Rattle.std.proofs.Common.{◌≡◌, ◌==◌, ◌∙◌, ◌↔◌, ◌⊎◌, ◌<◌, if◌then◌else◌, Bool, true, false, ℕ, List, [], ◌∷◌, length, Option, Some, None, IsSome, IsTrue, Result, Ok, Err, Bor, Vec, Global, map, inl, inr, ap, refl, subst, sym, arith}
 use Rattle.std.specs.Result.{IfOk}
 use Rattle.cdr_core.specs.declared.order.Order.{Order}
 use Rattle.cdr_core.specs.declared.values.Val.{Val}
@@ -26,7 +26,8 @@ use Rattle.lemonrudder.specs.Naming.{or_range, order_named}
 use Rattle.lemonrudder.specs.Outcomes.{Answers, AreRead, AreValuesOf, ByName, CanBe, HandsIn, IsBody, Raises, exception_octets, outcome_read}
 use Rattle.giop_core.specs.Items.{item_at}
 use Rattle.lemonrudder.specs.declared.serving.replying.Said.{Said}
-use Rattle.lemonrudder.specs.Replying.{AreLent, AreSaid, Contexts, IsSaid}
+use Rattle.lemonrudder.specs.RawCalls.{AreNoContexts, IsShortFor}
+use Rattle.lemonrudder.specs.Replying.{AreLent, AreSaid, Contexts, IsSaid, IsWhyUnsaid}
 use Rattle.lemonrudder.specs.Serves.{ByFound, ByWaiting}
 use Rattle.lemonrudder.specs.Spelled.{AreThose, AreValues}
 use Rattle.lemonrudder.specs.Tickets.{named_by, ticket_of, waiting_by}
@@ -148,6 +149,15 @@ pub tells-it : (f : Found) (id : List ℕ) (types : Option Forms) (order : Order
 tells-it f id None order octets room new s r body is told = absurd is
 tells-it f id (Some types) order octets room new s r body is told =
     inr ((λ vs are. subst (λ os. TellsIfCan f order os room new s r) (is.3 ∙ ap (exception_octets order id) (is.2 vs are)) told), λ none. absurd (none is.0 is.1))
+
+-- why octets are not kept, of which there are some
+some-octets : (octets : List ℕ) (b : Bool) → b ≡ (length octets == 0) → b ≡ false → 0 < length octets
+some-octets [] b counts some = absurd cc
+some-octets (octet ∷ octets) b counts some = omega arith
+
+pub unsaid-by : (order : Order) (octets : List ℕ) (e : Refusal) (b : Bool) → b ≡ (length octets == 0) → b ≡ false → AreNoContexts order octets e ⊎ IsShortFor order octets e → IsWhyUnsaid order octets e
+unsaid-by order octets e b counts some (inl none) = inl none
+unsaid-by order octets e b counts some (inr short) = inr (short.0, some-octets octets b counts some, short.1, short.2)
 
 -- octets are kept for a ticket, of which there are some
 pub said-is : (ticket : ℕ) (order : Order) (octets : List ℕ) (x : Said) (b : Bool) → b ≡ (length octets == 0) → b ≡ false → x.ticket ≡ ticket → x.order ≡ order → x.octets.items ≡ octets → IsSaid ticket order octets (Some x)

@@ -19,7 +19,7 @@ use Rattle.lemonrudder.specs.declared.refusal.Refusal.{Refusal}
 use Rattle.lemonrudder.specs.declared.refusal.Refusal.TheVariants as refusal
 use Rattle.lemonrudder.specs.Calls.{Stays}
 use Rattle.lemonrudder.specs.Naming.{call_numbered}
-use Rattle.lemonrudder.specs.RawCalls.{AreContexts, AreNoContexts, IsRawAsked, IsRawManner, IsWhyUnaskedRaw, OnCallRaw, OnRecallRaw, OnRedirectRaw, RawQuestion, raw_asked, raw_in}
+use Rattle.lemonrudder.specs.RawCalls.{AreContexts, AreNoContexts, IsRawAsked, IsRawManner, IsShortFor, IsWhyUnaskedRaw, OnCallRaw, OnRecallRaw, OnRedirectRaw, RawQuestion, raw_asked, raw_in}
 use Rattle.lemonrudder.specs.Refusals.{refusal_of_raw_calling, refusal_of_raw_recalling, refusal_of_raw_redirecting}
 use Rattle.lemonrudder.proofs.Clients.{stands_after, stands_silent}
 
@@ -28,7 +28,7 @@ pub raw_is : (version : Version) (q : RawQuestion) (m : RawManner) (all : List (
 raw_is version q m all is are = ((is.0, is.1, are, refl), is.2)
 
 -- its octets are no service contexts
-pub no_contexts : (version : Version) (q : RawQuestion) (m : RawManner) (e : Refusal) → IsRawManner version q (Ok m) → AreNoContexts m.order q.contexts e ⊎ ((e ≡ refusal.Memory) × (q.contexts ≢ [])) → IsWhyUnaskedRaw version q e
+pub no_contexts : (version : Version) (q : RawQuestion) (m : RawManner) (e : Refusal) → IsRawManner version q (Ok m) → AreNoContexts m.order q.contexts e ⊎ IsShortFor m.order q.contexts e → IsWhyUnaskedRaw version q e
 no_contexts version q m e is why = inr (m.order, m.wish, is.1, is.2, why)
 
 module _ (now expiration : ℕ) (q : RawQuestion) (s t : Calling) (version : Version) (own : (m : Client) → FtStands s.client m → version ≡ m.version) where

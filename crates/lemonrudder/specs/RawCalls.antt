@@ -1,12 +1,18 @@
 -- A raw call that a client makes, takes up again, or by which it redirects one: its body goes out as it came.
-use Rattle.std.specs.Prelude.{◌≡◌, ◌≢◌, ◌⊎◌, ℕ, suc, ℤ, ◌<◌, true, false, List, [], ◌∷◌, length, map, take, Some, None, Result, Ok, Err, FitsSigned}
+use Rattle.std.specs.Prelude.{◌≡◌, ◌⊎◌, ℕ, suc, ℤ, ◌<◌, true, false, List, [], ◌∷◌, length, map, take, Some, None, Result, Ok, Err, FitsSigned}
 use Rattle.std.specs.Borrow.{Bor}
 use Rattle.std.specs.Int.{w32}
 use Rattle.std.proofs.Common.{Vec, Global}
 use Rattle.cdr_core.specs.declared.fault.Fault.{Fault}
 use Rattle.cdr_core.specs.declared.order.Order.{Order}
+use Rattle.cdr_core.specs.Cursor.{Position}
+use Rattle.cdr_core.specs.Parts.{most}
+use Rattle.cdr_core.specs.Reading.{each_at, length_at, value_at}
 use Rattle.cdr_core.specs.Spelling.{IsClean, Spells}
 use Rattle.cdr_core.specs.Stopping.{Stops}
+use Rattle.cdr_core.specs.Value.{values}
+use Rattle.ior_core.specs.Grammar.{tagged}
+use Rattle.ior_core.specs.View.{lent_value}
 use Rattle.giop_core.specs.declared.header.Version.{Version}
 use Rattle.giop_core.specs.declared.request.ReplyWish.{ReplyWish}
 use Rattle.giop_core.specs.declared.request.ReplyWish.TheVariants as wish
@@ -56,10 +62,14 @@ AreNoContexts order (octet ∷ octets) e =
     ((f : Fault) × (e ≡ refusal_of_fault f) × Stops contexts order 0 (octet ∷ octets) f)
     ⊎ ((all : List (ℕ × List ℕ)) × (n : ℕ) × (e ≡ refusal.Value) × (n < length (octet ∷ octets)) × Spells contexts order (list_value all) 0 (take n (octet ∷ octets)))
 
--- octets are read as service contexts; or they are none, or memory is short, which none do not take
+-- .. or are some, for which memory is short
+abbrev pub IsShortFor : Order → List ℕ → Refusal → Type 0
+IsShortFor order octets e = (e ≡ refusal.Memory) × (all : List (ℕ × List ℕ)) × AreContexts order all octets × (0 < length all)
+
+-- octets are read as service contexts; or they are none, or memory is short
 abbrev pub ReadsContexts : Order → List ℕ → Result (Vec (ℕ × Bor (List ℕ)) Global) Refusal → Type 0
 ReadsContexts order octets (Ok v) = AreContexts order (map item_at v.items) octets
-ReadsContexts order octets (Err e) = AreNoContexts order octets e ⊎ ((e ≡ refusal.Memory) × (octets ≢ []))
+ReadsContexts order octets (Err e) = AreNoContexts order octets e ⊎ IsShortFor order octets e
 
 -- the order and the wish that its numbers name, of which a client of this version can ask
 abbrev pub IsNamed : Version → RawQuestion → Order → ReplyWish → Type 0
@@ -85,7 +95,7 @@ IsMisasked version q e = ((e ≡ refusal.Range) × ((order : Order) (wish : Repl
 -- why nothing can be asked so in this version: that, or its octets are no service contexts, or memory is short for those
 abbrev pub IsWhyUnaskedRaw : Version → RawQuestion → Refusal → Type 0
 IsWhyUnaskedRaw version q e = IsMisasked version q e
-    ⊎ ((order : Order) × (wish : ReplyWish) × IsNamed version q order wish × IsClean q.operation × (AreNoContexts order q.contexts e ⊎ ((e ≡ refusal.Memory) × (q.contexts ≢ []))))
+    ⊎ ((order : Order) × (wish : ReplyWish) × IsNamed version q order wish × IsClean q.operation × (AreNoContexts order q.contexts e ⊎ IsShortFor order q.contexts e))
 
 -- why a raw call is not made by a client: it can't be asked, or the client does not take it
 abbrev pub IsWhyNotRaw : (now expiration : ℕ) → RawQuestion → Client → Refusal → Type 0
@@ -133,6 +143,17 @@ OnRedirectRaw call q s t (Ok n) = (n ≡ 0) × ((x : Standing) → Stands s x �
 OnRedirectRaw call q s t (Err e) = Stays s t × ((x : Standing) → Stands s x → IsWhyUnledRaw call q x.client e)
 
 -- Words of private functions.
+
+-- so many service contexts are passed over; or one has a fault
+abbrev pub PassesOver : ℕ → Result (Unit {0}) Fault → Position → Position → Type 0
+PassesOver n (Ok x) old new = (xs : List (ℕ × Bor (List ℕ))) × (length xs ≡ n) × (each_at (value_at tagged old.order) n old.place old.rest ≡ Ok (values (map lent_value xs), new.place, new.rest))
+PassesOver n (Err f) old new = each_at (value_at tagged old.order) n old.place old.rest ≡ Err f
+
+-- octets are service contexts, as many as their count says; or they are none
+abbrev pub AreJudged : Order → List ℕ → Result (Unit {0}) Refusal → Type 0
+AreJudged order octets (Ok x) = (n : ℕ) × (q : ℕ) × (more : List ℕ) × (xs : List (ℕ × Bor (List ℕ))) × (p : ℕ) × (length_at order 0 most 0 octets ≡ Ok (n, q, more)) × (length xs ≡ n)
+    × (each_at (value_at tagged order) n q more ≡ Ok (values (map lent_value xs), p, []))
+AreJudged order octets (Err e) = AreNoContexts order octets e
 
 -- how a raw call goes out that is asked in a manner, with service contexts
 abbrev pub raw_in : RawManner → List (ℕ × List ℕ) → Raw
