@@ -11,6 +11,7 @@ use Rattle.cdr_core.specs.Value.{Values, values}
 use Rattle.cdr_core.specs.View.{forms_of, values_of}
 use Rattle.cdr_core.specs.Writing.{AreWritable, octets_of_all}
 use Rattle.giop_core.specs.Written.{exception_body}
+use Rattle.ft_log.specs.declared.outcome.RawStatus.{RawStatus}
 use Rattle.ft_log.specs.declared.outcome.RawStatus.TheVariants.{NoException, UserException}
 use Rattle.ft_log.specs.Performed.{Performed, raw, returned, system}
 use Rattle.ft_orb.specs.declared.error.ServeError.{ServeError}
@@ -117,10 +118,15 @@ AreValuesOf (Some types) order octets = AreValues types order octets
 abbrev pub AreResults : Interface → Order → List ℕ → Type 0
 AreResults i order octets = AreValuesOf (result_types i) order octets
 
--- they are kept as they stand; others are no outcome
+-- octets are kept as they stand, as the body of a reply: not where they can't be that, for which no memory is taken
+abbrev pub HandsInBody : (ticket : ℕ) → Found → RawStatus → Order → List ℕ → Serving → Serving → Result ℕ Refusal → Type 0
+HandsInBody ticket found status order octets s t r = (¬ (CanBe found (raw status order octets) s) → IsRefused refusal.Outcome s t r)
+    × (CanBe found (raw status order octets) s → UnlessShortFor octets s t r (AnswersWith ticket found 0 (raw status order octets) s t r))
+
+-- .. of no exception, where they are results; others are no outcome
 abbrev pub HandsInResults : (ticket : ℕ) → Order → List ℕ → Serving → Serving → Result ℕ Refusal → Found → Awaited → Type 0
 HandsInResults ticket order octets s t r found w =
-    (AreResults (interface_at s w) order octets → UnlessShortFor octets s t r (HandsIn ticket found 0 (raw NoException order octets) s t r))
+    (AreResults (interface_at s w) order octets → HandsInBody ticket found NoException order octets s t r)
     × (¬ (AreResults (interface_at s w) order octets) → IsRefused refusal.Outcome s t r)
 
 -- results of the operation
@@ -153,7 +159,7 @@ OnSystem ticket name minor completed s t r = ByName (system_name_named name) s t
 
 -- the body of a reply, as octets
 abbrev pub OnAnswerRaw : (ticket status order : ℕ) → List ℕ → Serving → Serving → Result ℕ Refusal → Type 0
-OnAnswerRaw ticket status order body s t r = ByName (raw_status_named status) s t r (λ n. ByName (order_named order) s t r (λ o. ByCalled ticket s t r (λ found w. UnlessShortFor body s t r (HandsIn ticket found 0 (raw n o body) s t r))))
+OnAnswerRaw ticket status order body s t r = ByName (raw_status_named status) s t r (λ n. ByName (order_named order) s t r (λ o. ByCalled ticket s t r (λ found w. HandsInBody ticket found n o body s t r)))
 
 -- CORBA 3.3 Part 1, 8.3: what an object that names these repository ids answers, if that is what is asked
 abbrev pub identity_by : Option (List (List ℕ)) → Call → Option Bool

@@ -43,7 +43,7 @@ impl Serving {
     }
 
     /// Whether octets may be the body of its Reply, of whichever status and order.
-    fn can_be_body(&self, found: Found, octets: &[u8]) -> bool
+    pub(super) fn can_be_body(&self, found: Found, octets: &[u8]) -> bool
         ensures { (status : Status) (order : ByteOrder) → IsTrue result ↔ CanBe found (raw status order octets.now) self.now }
     {
         giop_core::laws::octets_bodies();
