@@ -142,12 +142,12 @@ abbrev pub AreMembers : List ℕ → Forms → Order → List ℕ → Values →
 AreMembers id types order octets vs = SpellsMembers types order vs 0 octets × AreWritable (exception_body id vs)
 
 -- An exception is raised whose members are these octets: that body is kept. Where there are no types, or the octets are no members, that is
--- no outcome.
+-- no outcome. Only values of its types take memory.
 abbrev pub Raises : (ticket : ℕ) → Found → List ℕ → Option Forms → Order → List ℕ → Serving → Serving → Result ℕ Refusal → Type 0
 Raises ticket found id None order octets s t r = IsRefused refusal.Outcome s t r
 Raises ticket found id (Some types) order octets s t r =
     ((vs : Values) → AreMembers id types order octets vs → UnlessShort s t r (HandsIn ticket found 0 (raw UserException order (exception_octets order id vs)) s t r))
-    × (((vs : Values) → ¬ (AreMembers id types order octets vs)) → UnlessShort s t r (IsRefused refusal.Outcome s t r))
+    × (((vs : Values) → ¬ (AreMembers id types order octets vs)) → (AreValues types order octets × IsRefused refusal.Memory s t r) ⊎ IsRefused refusal.Outcome s t r)
 
 -- an exception that the operation declares
 abbrev pub OnRaise : ℕ → List ℕ → ℕ → List ℕ → Serving → Serving → Result ℕ Refusal → Type 0
@@ -188,19 +188,19 @@ outcome_read (Ok v) = Ok v
 outcome_read (Err refusal.Memory) = Err refusal.Memory
 outcome_read (Err e) = Err refusal.Outcome
 
--- what reading octets as values gave: all of them, and no others; or memory is short, or they are no values of the types
+-- what reading octets as values gave: all of them, and no others; or memory is short for these, or they are no values of the types
 abbrev pub AreRead : Option Forms → Order → List ℕ → Result (Vec Val Global) Refusal → Type 0
 AreRead None order octets (Ok v) = ⊥
 AreRead None order octets (Err e) = e ≡ refusal.Outcome
 AreRead (Some types) order octets (Ok v) = SpellsMembers types order (values_of v.items) 0 octets × ((vs : Values) → SpellsMembers types order vs 0 octets → values_of v.items ≡ vs)
-AreRead (Some types) order octets (Err e) = (e ≡ refusal.Memory) ⊎ ((e ≡ refusal.Outcome) × ((vs : Values) → ¬ (SpellsMembers types order vs 0 octets)))
+AreRead (Some types) order octets (Err e) = ((e ≡ refusal.Memory) × AreValues types order octets) ⊎ ((e ≡ refusal.Outcome) × ((vs : Values) → ¬ (SpellsMembers types order vs 0 octets)))
 
--- the body of an exception of such members, and of no others; or memory is short, or they are no members of one
+-- the body of an exception of such members, and of no others; or memory is short for these, or they are no members of one
 abbrev pub IsBody : List ℕ → Option Forms → Order → List ℕ → Result (Vec ℕ Global) Refusal → Type 0
 IsBody id None order octets (Ok body) = ⊥
 IsBody id None order octets (Err e) = e ≡ refusal.Outcome
 IsBody id (Some types) order octets (Ok body) = (vs : Values) × AreMembers id types order octets vs × ((us : Values) → AreMembers id types order octets us → vs ≡ us) × (body.items ≡ exception_octets order id vs)
-IsBody id (Some types) order octets (Err e) = (e ≡ refusal.Memory) ⊎ ((e ≡ refusal.Outcome) × ((vs : Values) → ¬ (AreMembers id types order octets vs)))
+IsBody id (Some types) order octets (Err e) = ((e ≡ refusal.Memory) × AreValues types order octets) ⊎ ((e ≡ refusal.Outcome) × ((vs : Values) → ¬ (AreMembers id types order octets vs)))
 
 -- a copy of octets; or memory is short, which none take
 abbrev pub IsCopy : List ℕ → Result (Vec ℕ Global) Refusal → Type 0

@@ -135,9 +135,9 @@ abbrev pub Opens : ℕ → Result (Unit {0}) ConnectError → Serving → Servin
 Opens c (Ok x) s t = (is_there t.connections c ≡ true) × (owed_on t c ≡ owed_on s c) × AreOthers c s.connections t.connections
 Opens c (Err e) s t = AreSame s.connections t.connections
 
--- a connection is opened: not while a request waits, and where memory is short nothing has changed
+-- a connection is opened: not while a request waits, and where memory is short for one that is not there nothing has changed
 abbrev pub OnConnect : ℕ → Serving → Serving → Result ℕ Refusal → Type 0
-OnConnect c s t r = WhereIdle s t r (((r ≡ Err refusal.Memory) × IsSame s t)
+OnConnect c s t r = WhereIdle s t r (((r ≡ Err refusal.Memory) × (is_there s.connections c ≡ false) × IsSame s t)
     ⊎ ((o : Result (Unit {0}) ConnectError) × (r ≡ done_of 0 refusal_of_connecting o) × IsIdle t × Opens c o s t × (t.ready ≡ s.ready) × (t.engine.offering ≡ s.engine.offering) × (t.setup ≡ opened_with o s.setup) × KeepsParked as_counted s t
     × OpensLate c s t o × KeepsNotes s t × KeepsEndings s t))
 
