@@ -108,12 +108,12 @@ OnCallRaw now expiration q s t (Ok n) = (x : Standing) → Stands s x → (r : R
     × (n ≡ suc x.client.last) × (is_taken now (raw_asked q r expiration) x.client ≡ true) × Stands t (happened (Called now (raw_asked q r expiration)) x)
 OnCallRaw now expiration q s t (Err e) = Stays s t × ((x : Standing) → Stands s x → IsWhyNotRaw now expiration q x.client e)
 
--- why a raw call of before is not taken up again by a client: its number is none, it can't be asked, or the client does not take it
+-- why a raw call of before is not taken up again by a client, the first that holds: its number is none, it can't be asked, or the client does
+-- not take it
 abbrev pub IsWhyUnresumedRaw : (call : ℤ) → (now expiration : ℕ) → RawQuestion → Client → Refusal → Type 0
 IsWhyUnresumedRaw call now expiration q m e = ((e ≡ refusal.Range) × (call_numbered call ≡ None))
-    ⊎ (IsWhyUnaskedRaw m.version q e
-    ⊎ ((id : ℕ) × (r : Raw) × (call_numbered call ≡ Some id) × IsRawAsked m.version q r
-    × (f : RawRecallError) × (e ≡ refusal_of_raw_recalling f) × IsRawRecallError now id (raw_asked q r expiration) m f))
+    ⊎ ((id : ℕ) × (call_numbered call ≡ Some id) × (IsWhyUnaskedRaw m.version q e
+    ⊎ ((r : Raw) × IsRawAsked m.version q r × (f : RawRecallError) × (e ≡ refusal_of_raw_recalling f) × IsRawRecallError now id (raw_asked q r expiration) m f)))
 
 -- a raw call of before is taken up again under its number, and sent where the client is connected; or it is not, and nothing has changed
 abbrev pub OnRecallRaw : (call : ℤ) → (now expiration : ℕ) → RawQuestion → Calling → Calling → Result ℕ Refusal → Type 0
@@ -131,12 +131,12 @@ pub record RedirectsRaw (call : ℤ) (q : RawQuestion) (r : Raw) (x : Standing) 
   pub anew : Stands t (record x { client = record x.client { pending = asked_anew call q.key (in_place_of q.operation (octets_body q.body) (raw r)) x.client.pending } })
   pub same : (p : Pending) → find_pending call x.client.pending ≡ Some p → p.call.form ≡ raw r → p.call.operation ≡ q.operation → p.call.arguments ≡ octets_body q.body → Stands t (happened (Redirected call q.key) x)
 
--- why a call is not redirected by a raw one: its number is none of 32 bits, or no reply is wished for; it can't be asked, or the client
--- does not redirect it
+-- why a call is not redirected by a raw one, the first that holds: its number is none of 32 bits, or no reply is wished for; it can't be asked;
+-- or the client does not redirect it
 abbrev pub IsWhyUnledRaw : (call : ℤ) → RawQuestion → Client → Refusal → Type 0
 IsWhyUnledRaw call q m e = ((e ≡ refusal.Range) × ((¬ (FitsSigned w32 call)) ⊎ (wish_named q.wish ≡ Some wish.None)))
-    ⊎ (IsWhyUnaskedRaw m.version q e
-    ⊎ ((r : Raw) × IsRawAsked m.version q r × (is_oneway r.wish ≡ false) × (f : RawRedirectError) × (e ≡ refusal_of_raw_redirecting f) × IsRawRedirectError call (raw_asked q r) m f))
+    ⊎ (FitsSigned w32 call × (¬ (wish_named q.wish ≡ Some wish.None)) × (IsWhyUnaskedRaw m.version q e
+    ⊎ ((r : Raw) × IsRawAsked m.version q r × (is_oneway r.wish ≡ false) × (f : RawRedirectError) × (e ≡ refusal_of_raw_redirecting f) × IsRawRedirectError call (raw_asked q r) m f)))
 
 abbrev pub OnRedirectRaw : (call : ℤ) → RawQuestion → Calling → Calling → Result ℕ Refusal → Type 0
 OnRedirectRaw call q s t (Ok n) = (n ≡ 0) × ((x : Standing) → Stands s x → (r : Raw) × RedirectsRaw call q r x t)
