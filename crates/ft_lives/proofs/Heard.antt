@@ -21,10 +21,11 @@ module _ (grow : HearingGrows meaning_in) (limits : Limits) where
       let first = grow limits s p in
       let next = grow limits (s ++ p) q in
       let whole : heard limits (s ++ (p ++ q)) ≡ heard limits s ++ (first.0 ++ next.0) =
-      ap (λ (l : List ℕ). heard limits l) (sym (append_assoc s p q)) ∙ next.1 ∙ ap (λ (l : List Incoming). l ++ next.0) first.1 ∙ append_assoc (heard limits s) first.0 next.0 in
-      (filter_map (λ m. arrival_of c now m) next.0,
-      arriving c now s (p ++ q) (first.0 ++ next.0) whole ∙ filter_map-append (λ m. arrival_of c now m) first.0 next.0
-      ∙ ap (λ (l : List (Arrival Wanted)). l ++ filter_map (λ m. arrival_of c now m) next.0) (sym (arriving c now s p first.0 first.1)))
+      ap (λ (l : List ℕ). heard limits l) (sym (append_assoc s p q)) ∙ next.1 ∙ ap (λ (l : List Incoming). l ++ next.0) first.1 ∙ append_assoc (heard limits s) first.0 next.0 in (
+        filter_map (λ m. arrival_of c now m) next.0,
+        arriving c now s (p ++ q) (first.0 ++ next.0) whole ∙ filter_map-append (λ m. arrival_of c now m) first.0 next.0
+            ∙ ap (λ (l : List (Arrival Wanted)). l ++ filter_map (λ m. arrival_of c now m) next.0) (sym (arriving c now s p first.0 first.1)),
+      )
 
   on-line : (c : Origin) (now : ℕ) (l : Line) (octets : List ℕ) (k : ℕ) → (more : List (Arrival Wanted)) × (arrivals_on limits c now l octets ≡ arrivals_on limits c now l (front_on limits c now l octets k) ++ more)
   unfolding front_in

@@ -104,33 +104,45 @@ module _ {State : Type 0} (apply : State → Call → State × Performed) where
 
   pub once-is-owned : OnceIsOwned apply
   once-is-owned front d old new w (verdict.Answer outcome) l there number once =
-      let a = shown-like front old new once.0 l once.1.passes in
-      (once.0, a.1,
-      record { before = with_changes front once.0; after = []; point = sym (append-nil (with_changes front once.0)); held = sym (like-held (stored (with_changes front once.0)) new.store a.1 d.key) ∙ once.2 },
-      once.1.own, a.0.allows)
+      let a = shown-like front old new once.0 l once.1.passes in (
+        once.0,
+        a.1,
+        record { before = with_changes front once.0; after = []; point = sym (append-nil (with_changes front once.0)); held = sym (like-held (stored (with_changes front once.0)) new.store a.1 d.key) ∙ once.2 },
+        once.1.own,
+        a.0.allows,
+      )
   once-is-owned front d old new w verdict.Over l there number once =
-      let a = shown-like front old new once.0 l once.1.passes in
-      (once.0, a.1,
-      record { before = with_changes front once.0; after = []; point = sym (append-nil (with_changes front once.0)); over = subst (λ (m : ℕ). d.expiration < m) a.1.mark once.2 },
-      once.1.own, a.0.allows)
+      let a = shown-like front old new once.0 l once.1.passes in (
+        once.0,
+        a.1,
+        record { before = with_changes front once.0; after = []; point = sym (append-nil (with_changes front once.0)); over = subst (λ (m : ℕ). d.expiration < m) a.1.mark once.2 },
+        once.1.own,
+        a.0.allows,
+      )
   once-is-owned front d old new w verdict.Decline l there number once =
       let early = shown-like front old once.mid once.early l once.before in
       let late = shown-like (with_changes front once.early) once.mid new once.late early.1 once.after in
       let changes = once.early ++ once.late in
       let split : with_changes front changes ≡ with_changes (with_changes front once.early) once.late = steps-append front once.early once.late in
       let p : Passes apply old changes new = passes-append apply old once.mid new once.early once.late once.before once.after in
-      let all = shown-like front old new changes l p in
-      (changes, all.1,
-      (record {
-        before = with_changes front once.early;
-        after = map (λ c. Stored c) once.late;
-        point = split;
-        request = w;
-        asked = asked-later d.ask.life (with_changes front once.early) front (map (λ c. Stored c) once.early) w refl there;
-        numbered = number;
-        free = sym (like-held (stored (with_changes front once.early)) once.mid.store early.1 d.key) ∙ once.free;
-      }, once.others),
-      λ ask row in_it own. Contains-append_right (d ∷ []) old.doubts (record { ask = ask; key = row.key; expiration = row.expiration }) (once.others ask row in_it own), all.0.allows)
+      let all = shown-like front old new changes l p in (
+        changes,
+        all.1,
+        (
+          record {
+            before = with_changes front once.early;
+            after = map (λ c. Stored c) once.late;
+            point = split;
+            request = w;
+            asked = asked-later d.ask.life (with_changes front once.early) front (map (λ c. Stored c) once.early) w refl there;
+            numbered = number;
+            free = sym (like-held (stored (with_changes front once.early)) once.mid.store early.1 d.key) ∙ once.free;
+          },
+          once.others,
+        ),
+        λ ask row in_it own. Contains-append_right (d ∷ []) old.doubts (record { ask = ask; key = row.key; expiration = row.expiration }) (once.others ask row in_it own),
+        all.0.allows,
+      )
   once-is-owned front d old new w verdict.Unknown l there number once =
       let a = shown-like front old new once.0 l once.1.passes in
       (once.0, a.1, tt, once.1.own, a.0.allows)

@@ -105,9 +105,9 @@ committed-from s (Did n d ∷ steps) row there = elim (committed-from s steps ro
 committed-from s (Stored (Committed ask new) ∷ steps) row there =
     elim (committed-from (changed s (Committed ask new)) steps row there) [
       | inl h ↦ elim (Contains-push_cases s.rows new row h) [
-          | inl h ↦ inl h
-          | inr is ↦ inr (record { front = []; rest = steps; ask = ask; is = ap (λ (r : Row). Stored (Committed ask r) ∷ steps) is })
-        ]
+        | inl h ↦ inl h
+        | inr is ↦ inr (record { front = []; rest = steps; ask = ask; is = ap (λ (r : Row). Stored (Committed ask r) ∷ steps) is })
+      ]
       | inr w ↦ inr (was-later (Stored (Committed ask new)) steps row w)
     ]
 committed-from s (Stored (Purged mark) ∷ steps) row there = elim (committed-from (changed s (Purged mark)) steps row there) [ inl h ↦ inl h | inr w ↦ inr (was-later (Stored (Purged mark)) steps row w) ]

@@ -9,3 +9,4 @@ mod Repeated
 mod Serial
 mod Tried
 mod Keeping
+mod Looked

@@ -159,9 +159,10 @@ module _ (s : Settings) (number : ℕ) (key : RequestKey) (i : ℕ) where
   -- what was parked under another number becomes known
   changed-watched : (g : Ledger) (j m : ℕ) (x : Holding) → Watched g → g.held j ≡ parked m → (number == m) ≡ false → (put_at j x g.held i ≡ parked number) × HasKey (put_at m None g.there number) key
   changed-watched g j m x h was other =
-      let apart : number ≡ m → ⊥ = eqb-false number m other in
-      (put-else j x g.held i (λ at. apart (same-parked number m (sym h.parked_is ∙ ap g.held at ∙ was))) ∙ h.parked_is,
-      subst (λ (o : Option Awaited). HasKey o key) (sym (put-else m None g.there number apart)) h.has)
+      let apart : number ≡ m → ⊥ = eqb-false number m other in (
+        put-else j x g.held i (λ at. apart (same-parked number m (sym h.parked_is ∙ ap g.held at ∙ was))) ∙ h.parked_is,
+        subst (λ (o : Option Awaited). HasKey o key) (sym (put-else m None g.there number apart)) h.has,
+      )
 
   watched-deed : (g : Ledger) (d : Deed) → IsDeed s g d → settles number d ≡ false → Watched g → Watched (after_deed s g d)
   watched-deed g (Happened e written note) x other h = record { less = h.less; parked_is = h.parked_is; has = h.has }

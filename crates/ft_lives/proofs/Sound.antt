@@ -54,7 +54,6 @@ module _ (s : Settings) (grow : HearingGrows meaning_in) where
   abbrev pub table : List Event → Table (List Call) ℕ
   table past = owned_table (by_number s (λ n. parked n)) past
 
-
   module _ (P : KeptOutcome ℕ → Type 0) where
     let-go-all : (e : Event) (t : Table (List Call) ℕ) → AllByRecursion P t.entries → AllByRecursion P (let_go (λ n i. n == i) e t).entries
     let-go-all (Opened c) t all = all

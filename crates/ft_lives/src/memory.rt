@@ -3,7 +3,7 @@
 ghost use Rattle.std.specs.Prelude.{◌≡◌, [], max};
 ghost use Rattle.ft_objects.specs.Interfaces.{AreArgumentsOf};
 
-use crate::looking::held;
+use crate::looking::{held, take_out};
 use crate::row::Kept;
 use crate::store::{Commit, Found, Store};
 use ft_log::{Key, Outcome};
@@ -48,7 +48,7 @@ impl<S: Servant + Drop> MemoryStore<S> {
         ensures { shown_in self.new ≡ record (shown_in self.old) { store = now_holds (shown_in self.old).store (Purged (max (shown_in self.old).store.mark moment)) } }
     {
         let mark = self.mark.max(moment);
-        self.rows.retain(|row| mark <= row.expiration);
+        take_out(&mut self.rows, mark);
         self.mark = mark;
     }
 }
@@ -93,7 +93,10 @@ impl<S: Servant + Drop> Store for MemoryStore<S> {
             return Commit::Failed;
         }
         let (object_key, operation) = (asked.object_key, asked.operation);
-        let Ok(outcome) = self.servant.perform(alloc, object_key, operation, asked.arguments) else {
+        let Ok(outcome) = self
+            .servant
+            .perform(alloc, object_key, operation, asked.arguments)
+        else {
             return Commit::Failed;
         };
         let copy = outcome.copy(alloc);

@@ -35,8 +35,9 @@ fn try_once<S: Store>(
     }
     match store.commit(alloc, asked, request) {
         Commit::Done(outcome) => Err(Verdict::Answer(outcome)),
-        Commit::Failed if !doubtful => Err(Verdict::Decline),
-        Commit::Taken | Commit::Failed => Ok(doubtful),
+        Commit::Taken => Ok(doubtful),
+        Commit::Failed if doubtful => Ok(true),
+        Commit::Failed => Err(Verdict::Decline),
         Commit::InDoubt => Ok(true),
     }
 }
