@@ -1,4 +1,4 @@
-//! Twenty-two uses of the libraries, as a caller writes them: each is one file with one subject, proved, and
+//! Twenty-three uses of the libraries, as a caller writes them: each is one file with one subject, proved, and
 //! run by a test of `uses_tests`, whose octets are written out by hand from the standard's layouts (CDR 9.3, GIOP 9.4).
 //! The pages of the repository quote them.
 #![tactic(auto)]
@@ -8,6 +8,7 @@ mod arguments;
 mod banking;
 mod capture;
 mod cutting;
+mod durable;
 mod endpoint;
 mod forwarding;
 mod handing;
@@ -31,6 +32,7 @@ pub use arguments::{DecodeError, first_arguments, publish_types};
 pub use banking::{Bank, BankingError, serve_bank};
 pub use capture::{Capture, read_capture};
 pub use cutting::{AtCut, CuttingError, ticket_at_cut};
+pub use durable::{DurableError, live_durably};
 pub use endpoint::first_endpoint;
 pub use forwarding::{ForwardError, forward_request, read_reply};
 pub use handing::hand_on;

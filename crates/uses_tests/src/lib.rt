@@ -15,6 +15,8 @@ mod capture;
 #[cfg(test)]
 mod cutting;
 #[cfg(test)]
+mod durable;
+#[cfg(test)]
 mod endpoint;
 #[cfg(test)]
 mod handing;

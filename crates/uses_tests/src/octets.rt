@@ -17,6 +17,11 @@ pub(crate) const NEXT: &[u8] = b"GIOP\x01\x02\x00\x00\x00\x00\x00\x48\
 pub(crate) const TICKET: &[u8] = b"GIOP\x01\x02\x00\x01\x00\x00\x00\x14\
     \x00\x00\x00\x05\x00\x00\x00\x00\x00\x00\x00\x00\x00\x00\x00\x00\x00\x00\x00\x01";
 
+/// A Reply of 1.2 with the id 5: BAD_CONTEXT, minor code 0, COMPLETED_NO.
+pub(crate) const OVER: &[u8] = b"GIOP\x01\x02\x00\x01\x00\x00\x00\x3c\
+    \x00\x00\x00\x05\x00\x00\x00\x02\x00\x00\x00\x00\
+    \x00\x00\x00\x22IDL:omg.org/CORBA/BAD_CONTEXT:1.0\x00\x00\x00\x00\x00\x00\x00\x00\x00\x00\x01";
+
 /// A Request of 1.2 with the id 5 for `deposit` at the key `bank`, with FT_REQUEST: the client `A`, the number of its
 /// request, which stands between these two, and the expiration 100; the account `A`, and after these the cents.
 pub(crate) const DEPOSIT: (&[u8], &[u8]) = (

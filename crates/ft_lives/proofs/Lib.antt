@@ -1,0 +1,12 @@
+mod Lists
+mod Kept
+mod Committed
+mod Tables
+mod Heard
+mod Sound
+mod Standing
+mod Repeated
+mod Serial
+mod Tried
+mod Keeping
+mod Looked

@@ -1,0 +1,57 @@
+//! Laws over the definitions: each is what a function with an empty body ensures. `lives` are lives of engines over one
+//! store, which end anywhere and may overlap. No clock is compared with another.
+
+ghost use Rattle.std.specs.Prelude.{ℕ};
+ghost use Rattle.ft_lives.specs.Keeping.{OnceIsOwned, StoresMayForget};
+ghost use Rattle.ft_lives.specs.Laws.{CommitsComeLater, CommitsWereAdmitted, HeldIsCommitted, KeyCommitsOnce};
+ghost use Rattle.ft_lives.specs.Lives.{Life};
+ghost use Rattle.ft_lives.specs.Replies.{DeclinedAreFree, RefusedAreFree, RepeatsAreHeld, ToldAreHeld};
+ghost use Rattle.ft_lives.specs.Serial.{SerialIsOfCommits};
+
+use crate::store::Store;
+use ft_objects::Servant;
+
+/// No two commits have one key, where the requests with that key carry one expiration in all lives, and what the store held
+/// for it at any point is the outcome of the one commit. Without that premise the second of two commits has the greater
+/// expiration, and comes once the first is held no longer.
+pub fn keys_commit_once()
+    ensures later { CommitsComeLater }
+    ensures once { (lives : ℕ → Life) → KeyCommitsOnce lives }
+    ensures held { (lives : ℕ → Life) → HeldIsCommitted lives }
+{}
+
+/// What is committed was asked for before, by an arrival of its life with its key and its expiration, which was not over
+/// then.
+pub fn commits_were_admitted()
+    ensures { (lives : ℕ → Life) → CommitsWereAdmitted lives }
+{}
+
+/// Whoever repeats a request gets what the store held for its key: from the log of a life, at once, or once the call that
+/// it waits for is settled.
+pub fn replies_are_held()
+    ensures repeats { (lives : ℕ → Life) → RepeatsAreHeld lives }
+    ensures told { (lives : ℕ → Life) → ToldAreHeld lives }
+{
+    giop_link::laws::streams_are_heard::<giop_link::Server>();
+}
+
+/// No refusal is of a key that the store holds, but BAD_CONTEXT of a request that is over: of its owner, and of an engine
+/// of whose own refusals none is of a key that is held.
+pub fn refused_are_free()
+    ensures engine { (lives : ℕ → Life) → RefusedAreFree lives }
+    ensures owner { (lives : ℕ → Life) → DeclinedAreFree lives }
+{}
+
+/// Where transactions are serial the state is that of the committed calls, each once, in the order of the commits, with what
+/// others wrote in between, and the rows have their outcomes.
+pub fn commits_are_serial<S: Servant>()
+    ensures { SerialIsOfCommits (λ state call. S.meaning.apply state call.object_key call.operation call.arguments) }
+{}
+
+/// What an owner's steps come to, among the steps of all lives: the changes of the store are allowed, what its life commits
+/// is of this request or was in doubt, and an answer, a refusal of what is over and a decline are as the owners' rules want
+/// them. So it is of a store that takes out what is held no longer, too, which holds and allows the same.
+pub fn once_is_owned<S: Store>()
+    ensures forget { StoresMayForget }
+    ensures owned { OnceIsOwned S.apply }
+{}
