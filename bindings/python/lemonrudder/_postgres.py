@@ -16,12 +16,13 @@ CREATE TABLE IF NOT EXISTS outcome (
 CREATE INDEX IF NOT EXISTS outcome_by_expiration ON outcome (expiration);
 CREATE TABLE IF NOT EXISTS forgotten (version integer NOT NULL, moment bytea NOT NULL);
 """
-# (of one snapshot: what a purge took out that it sees lies before the moment that it sees)
+# (of one snapshot: what a purge took out that it sees lies before the moment that it sees. The keys are a text, as
+# asyncpg takes long to learn what arrays are, on each connection)
 _FIND = """
 SELECT moment, status, little, body
-FROM unnest($1::bytea[], $2::integer[]) WITH ORDINALITY AS asked (client, retention, place) CROSS JOIN forgotten
-LEFT JOIN LATERAL (SELECT status, little, body FROM outcome AS one
-                   WHERE one.client = asked.client AND one.retention = asked.retention LIMIT 1) AS found ON true
+FROM unnest(string_to_array($1, ',')) WITH ORDINALITY AS asked (key, place) CROSS JOIN forgotten
+LEFT JOIN LATERAL (SELECT status, little, body FROM outcome WHERE client = decode(split_part(key, ':', 1), 'hex')
+                   AND retention = split_part(key, ':', 2)::integer LIMIT 1) AS found ON true
 ORDER BY place
 """
 # (a row that a purge has locked is waited for, and looked at as it is then)
@@ -157,7 +158,8 @@ class PostgresStore:
             async with self._pool.acquire() as db:
                 while self._asked:
                     asked, self._asked = self._asked, []
-                    rows = await db.fetch(_FIND, [key.client for key, _ in asked], [key.retention_id for key, _ in asked])
+                    keys = ",".join(f"{key.client.hex()}:{key.retention_id}" for key, _ in asked)
+                    rows = await db.fetch(_FIND, keys)
                     for (_, future), row in zip(asked, rows):
                         if not future.done():
                             future.set_result(row)
