@@ -287,8 +287,8 @@ static void *work(void *nothing) {
 static int64_t answer(lr_server *server, uint64_t ticket, const struct outcome *outcome) {
   unsigned char octets[64];
   if (outcome != NULL && outcome->body != NULL)
-    return lr_server_answer_stored(server, ticket, outcome->status, outcome->order, outcome->body, outcome->size);
-  return lr_server_answer_stored(server, ticket, LR_REPLY_SYSTEM_EXCEPTION, LR_ORDER_BIG, octets,
+    return lr_server_answer_unkept(server, ticket, outcome->status, outcome->order, outcome->body, outcome->size);
+  return lr_server_answer_unkept(server, ticket, LR_REPLY_SYSTEM_EXCEPTION, LR_ORDER_BIG, octets,
                                  put_unknown(octets, sizeof octets));
 }
 
