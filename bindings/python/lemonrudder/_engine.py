@@ -274,12 +274,13 @@ class Engine(Held):
         """.. a system exception. Raises KeyError: there is no such name; ValueError."""
         return system_outcome(name, minor, completed)
 
-    def answer_stored(self, outcome: Outcome, *, keep: bool = True, ticket: Optional[int] = None) -> None:
-        """Answers by a stored outcome of the request, in another process too. keep: it is kept here for repeats; else a
-        repeat comes to you again, as your store keeps it. Errors as of answer_raw."""
-        answer = library.lr_server_answer_raw
-        if not keep:
-            answer = getattr(library, "lr_server_answer_stored", answer)  # (UNTIL IT LANDS)
+    def answer_stored(self, outcome: Outcome, *, ticket: Optional[int] = None) -> None:
+        """Answers by a stored outcome of the request, in another process too. Errors as of answer_raw."""
+        self.answer_raw(outcome.body, outcome.order, outcome.status, ticket=ticket)
+
+    def answer_unkept(self, outcome: Outcome, *, ticket: Optional[int] = None) -> None:
+        """The same, and nothing is kept here: a repeat comes to you again. Errors as of answer_raw."""
+        answer = getattr(library, "lr_server_answer_unkept", library.lr_server_answer_raw)  # (UNTIL IT LANDS)
         self._answered(self._ticket(ticket), answer, outcome.status, outcome.order, *lent(outcome.body))
 
     def reply_contexts(self, contexts: Sequence[Tuple[int, Octets]], *, ticket: Optional[int] = None) -> None:

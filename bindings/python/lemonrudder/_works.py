@@ -267,7 +267,7 @@ class Works:
         """Hands in what a function returned."""
         if isinstance(returned, Outcome) or self._server._durable is not None:
             outcome = returned if isinstance(returned, Outcome) else self._server._durable.outcome(asked, returned)
-            self._server._engine.answer_stored(outcome, keep=not self._is_durable(asked), ticket=ticket)
+            self._answer_by(asked, outcome, ticket)
         elif asked.arguments is not None:
             results = self._server._offer.performer(asked.key, asked.operation).signature
             self._server._engine.answer(*results_of(results.results if results else "", returned), ticket=ticket)
@@ -303,10 +303,13 @@ class Works:
             raise
 
     def _doubt(self, asked: Asked, name: str, *, ticket: int) -> None:
-        """Answers by a system exception, COMPLETED_MAYBE. What a store keeps may be another outcome: there it is not
-        kept."""
-        self._server._engine.answer_stored(system_outcome(name, 0, Completed.MAYBE), keep=not self._is_durable(asked),
-                                           ticket=ticket)
+        """Answers by a system exception, COMPLETED_MAYBE: a store may have another outcome."""
+        self._answer_by(asked, system_outcome(name, 0, Completed.MAYBE), ticket)
+
+    def _answer_by(self, asked: Asked, outcome: Outcome, ticket: int) -> None:
+        """Answers by an outcome, which is kept here where no store has it."""
+        engine = self._server._engine
+        (engine.answer_unkept if self._is_durable(asked) else engine.answer_stored)(outcome, ticket=ticket)
 
     def _refuse(self, asked: Asked) -> None:
         """Refuses a request that was not begun, by TRANSIENT. Whether a store has it is not known then."""
