@@ -30,6 +30,8 @@ EXAMPLES = os.path.join(ROOT, "examples")
 KEY, OVERDRAWN = b"bank", "IDL:Bank/Overdrawn:1.0"
 # how long a call, or what is waited for, may take on a busy machine
 SECONDS = 300
+# an expiration that is never past
+ENDLESS = (1 << 64) - 1
 # a program in Python whose clock is wrong by so many seconds, and a library that makes that of a program in C so
 LATE_PYTHON = "import runpy, sys, time; real, late = time.time_ns, int(sys.argv[1]) * 10**9; " \
     "time.time_ns = lambda: real() + late; sys.argv = sys.argv[2:]; runpy.run_path(sys.argv[0], run_name='__main__')"
@@ -180,6 +182,8 @@ class Bank:
         if self.process is not None and self.process.poll() is None:
             self.process.send_signal(signal.SIGCONT)
         self.end()
+        if error[0] is not None:
+            print(f"{self.language}: it said {self.said()}")
         self.errors.close()
 
 
@@ -190,7 +194,7 @@ class Postgres:
         found = shutil.which("initdb") or next(iter(sorted(glob.glob("/usr/lib/postgresql/*/bin/initdb"))[::-1]), None)
         if found is None:
             raise unittest.SkipTest(NEEDS + "postgresql")
-        self.bin, self.port = os.path.dirname(found), free_port()
+        self.bin, self.port = os.path.dirname(os.path.realpath(found)), free_port()
         self.folder = tempfile.mkdtemp(prefix="durable-pg-")
         self.begin: list[str] = []
         if os.geteuid() == 0:
@@ -332,7 +336,7 @@ async def balance_of(port: int, account: str) -> int:
     """The balance of an account."""
     client = lr.Client("127.0.0.1", port, delays=(0.005, 0.1))
     try:
-        return await client.call(KEY, "balance", "s", (account,), "q")
+        return await client.call(KEY, "balance", "s", (account,), "q", expiration=ENDLESS)
     finally:
         await client.close()
 

@@ -15,7 +15,7 @@ import unittest
 
 from tests import base
 from tests.embed import durable
-from tests.embed.durable import KEY, Bank, Caller, Postgres, balance_of, callers_of, folders, judge, lr, until
+from tests.embed.durable import ENDLESS, KEY, Bank, Caller, Postgres, balance_of, callers_of, folders, judge, lr, until
 from tests.programs import NEEDS
 
 try:
@@ -32,7 +32,6 @@ LANGUAGES = [("in c", "c"), ("in py", "py")]
 EACH_POINT = [(f"{language} {point}", (language, point)) for language, points in POINTS.items() for point in points]
 # how often a bank is killed by chance: in C it begins at once
 KILLS = {"c": 100, "py": 12}
-ENDLESS = (1 << 64) - 1
 
 
 async def call_on(callers: list[Caller], is_over: asyncio.Event) -> None:
@@ -145,6 +144,7 @@ async def recalled(bank: Bank, keep: object, name: str) -> None:
     """What is stored is answered before a request is refused, and octet by octet; what is not is refused, and acts
     nothing."""
     bank.begin()
+    assert await balance_of(bank.port, name) == 0
     keep(name, 1, lr.ReplyStatus.NO_EXCEPTION, lr.LITTLE, b"\1\2\3")
     keep(name, 2, lr.ReplyStatus.SYSTEM_EXCEPTION, lr.BIG,
          lr.pack("sLe3", "IDL:omg.org/CORBA/NO_PERMISSION:1.0", 9, lr.Completed.YES))
