@@ -459,6 +459,12 @@ LR_API int64_t lr_server_system(lr_server *server, uint64_t ticket, uint32_t nam
 LR_API int64_t lr_server_answer_raw(lr_server *server, uint64_t ticket, uint32_t status, uint32_t order,
                                     const void *body, size_t size);
 
+/* Answers by the body of a Reply as lr_server_answer_raw does, and keeps nothing: it is in a store of yours. Where the
+ * request comes again it comes to you again. The reply carries no service contexts. Errors as of lr_server_answer, but
+ * that of one that waits LR_E_LOST is its connection's loss: it is given up. */
+LR_API int64_t lr_server_answer_unkept(lr_server *server, uint64_t ticket, uint32_t status, uint32_t order,
+                                       const void *body, size_t size);
+
 /* Answers _is_a and _non_existent of an object that names its repository ids: 1 where that is what waits or is parked,
  * and it is answered; 0 where it is another operation. Every object is a CORBA::Object. Errors as of lr_server_answer,
  * but for LR_E_RANGE. */

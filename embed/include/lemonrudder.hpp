@@ -894,6 +894,12 @@ class Server : public Slot<lr_server> {
   Done answer_stored(std::uint64_t ticket, const Outcome& outcome) noexcept {
     return answer_raw(ticket, outcome.status, outcome.order, outcome.body);
   }
+  /* .. and keeps nothing: a store of yours does. Where the request comes again, it comes to you again. */
+  Done answer_unkept(std::uint64_t ticket, const Outcome& outcome) noexcept {
+    return detail::done(lr_server_answer_unkept(slot(), ticket, static_cast<std::uint32_t>(outcome.status),
+                                                static_cast<std::uint32_t>(outcome.order), outcome.body.data(),
+                                                outcome.body.size()));
+  }
   /* Service contexts for the replies that the next answer of a request makes due: a list of them, as in RawCall, in an
    * order; or none. */
   Done reply_contexts(std::uint64_t ticket, Order order, Octets contexts) noexcept {

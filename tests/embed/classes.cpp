@@ -387,6 +387,19 @@ std::optional<Vector> answered_by(const lr::Outcome& outcome) {
   return due_of(*server, std::uint64_t{1});
 }
 
+/* What is told and not kept is asked again. */
+void unkept_outcomes_are_asked_again() {
+  auto server = open_server();
+  const lr::Outcome outcome{lr::ReplyStatus::no_exception, lr::Order::big, {0, 0, 0, 7}};
+  CHECK(server && server->connect(1));
+  for (int turn = 0; turn < 2; turn++) {
+    const auto ticket = parked(*server, 1, request_of(1, 1));
+    CHECK(server->answer_unkept(ticket, outcome));
+    CHECK(due_of(*server, std::uint64_t{1}).size() > outcome.body.size());
+    CHECK(server->answer_unkept(ticket, outcome).error() == LR_E_TICKET);
+  }
+}
+
 /* Outcomes are stored, and answered by another server; here nothing is. */
 void outcomes_are_stored() {
   auto server = open_server();
@@ -780,6 +793,7 @@ int main() {
   a_call_goes_on();
   a_raw_call_goes_on();
   a_body_is_as_it_came();
+  unkept_outcomes_are_asked_again();
   outcomes_are_stored();
   replies_have_contexts();
   requests_are_answered();

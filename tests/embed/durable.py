@@ -96,9 +96,6 @@ def made(is_postgres: bool) -> str:
         flags = [*flags, "-DBANK_POSTGRES", *flags_of("libpq", "postgresql/libpq-fe.h")]
         sources.append("bank_postgres.c")
     lib = library()
-    with open(f"{lib}/include/lemonrudder.h", encoding="ascii") as file:
-        if "lr_server_answer_unkept" not in file.read():
-            flags.append("-Dlr_server_answer_unkept=lr_server_answer_raw")  # (UNTIL IT LANDS)
     compiled(folder, f"-I{lib}/include", *(os.path.join(EXAMPLES, name) for name in sources),
              f"{lib}/lib/liblemonrudder.a", *flags, "-pthread", "-o", "bank")
     with open(os.path.join(folder, "late.c"), "w", encoding="ascii") as file:

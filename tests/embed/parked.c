@@ -106,6 +106,55 @@ static int64_t named(void) {
   return all;
 }
 
+/* ---- outcomes that a store of the owner keeps ---- */
+
+static int64_t answer_unkept(uint64_t ticket, unsigned char result) {
+  const unsigned char body[] = {0, 0, 0, result};
+  return lr_server_answer_unkept(&server, ticket, LR_REPLY_NO_EXCEPTION, LR_ORDER_BIG, body, sizeof body);
+}
+
+/* They are told, and nothing is kept: each repeat is asked anew, one that was parked too. */
+static void unkept_are_asked_again(void) {
+  static const unsigned char huge[1048577];
+  open_server();
+  set(LR_SET_CAPACITY, 1);
+  connect(3);
+  for (uint32_t id = 21; id < 24; id++) {
+    make_request(id, "c", "add", (int32_t)id, LR_WISH_FULL);
+    for (uint64_t connection = 1; connection <= 2; connection++) {
+      uint64_t ticket = fed(connection);
+      WANT(lr_server_answer_unkept(&server, ticket, 4, LR_ORDER_BIG, "", 0), LR_E_RANGE);
+      WANT(lr_server_answer_unkept(&server, ticket, LR_REPLY_NO_EXCEPTION, 2, "", 0), LR_E_RANGE);
+      WANT(answer_unkept(ticket + 1, 9), LR_E_TICKET);
+      WANT(lr_server_answer_unkept(&server, ticket, LR_REPLY_NO_EXCEPTION, LR_ORDER_BIG, huge, sizeof huge),
+           LR_E_OUTCOME);
+      WANT(answer_unkept(ticket, (unsigned char)id), LR_OK);
+      WANT(answer_unkept(ticket, 9), LR_E_TICKET);
+      replies(connection, id, id);
+    }
+  }
+  WANT(lr_server_count(&server, LR_COUNT_KEPT), 0);
+  WANT(lr_server_count(&server, LR_COUNT_ANSWERED), 6);
+  uint64_t ticket = park(1, 31, 7);
+  join(2, 32, 7);
+  make_request(33, "c", "add", 0, LR_WISH_FULL);
+  uint64_t waits = fed(3);
+  WANT(answer_unkept(ticket, 7), LR_E_ASKING);
+  WANT(answer_unkept(waits, 8), LR_OK);
+  replies(3, 33, 8);
+  WANT(answer_unkept(ticket, 7), LR_OK);
+  WANT(named(), 1 << 1 | 1 << 2);
+  replies(1, 31, 7);
+  replies(2, 32, 7);
+  WANT(lr_server_count(&server, LR_COUNT_SETTLED), 1);
+  WANT(lr_server_count(&server, LR_COUNT_KEPT), 0);
+  make_request(34, "c", "add", 7, LR_WISH_FULL);
+  ticket = fed(2);
+  WANT(lr_server_refuse(&server, ticket, LR_EX_TRANSIENT, 0), LR_OK);
+  lr_close(&server);
+  WANT(answer_unkept(ticket, 7), LR_E_EMPTY);
+}
+
 /* ---- parked requests ---- */
 
 /* They are answered in another order than they came, each where it is waited for. */
@@ -742,6 +791,7 @@ int main(void) {
   ids_are_limited();
   structs_have_the_callers_size();
   raw_calls_are_made();
+  unkept_are_asked_again();
   lr_close(&server);
   return check_end();
 }

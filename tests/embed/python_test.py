@@ -1000,6 +1000,20 @@ class Engines(Case):
             engine.answer_stored(lr.Outcome(0, LITTLE, lr.pack("q", 6, order=LITTLE)), ticket=ticket)
             self.assertEqual(self.reply(engine).body.unpack("q"), (6,))
 
+    def test_unkept_outcomes(self):
+        """They are told, nothing is kept, and each repeat is asked again."""
+        octets, outcome = asked_for(1, "get", retention=1), lr.Outcome(0, LITTLE, lr.pack("q", 6, order=LITTLE))
+        for is_parked in (False, True):
+            engine = self.engine()
+            for _ in range(3):
+                engine.feed(1, octets, LONG_AGO)
+                ticket = engine.park() if is_parked else None
+                self.fails(Error.TICKET, engine.answer_unkept, outcome, ticket=99)
+                self.fails(Error.RANGE, engine.answer_unkept, lr.Outcome(4, BIG, b""), ticket=ticket)
+                engine.answer_unkept(outcome, ticket=ticket)
+                self.assertEqual(self.reply(engine).body.unpack("q"), (6,))
+            self.assertEqual(engine.count(lr.Counted.KEPT), 0)
+
     def test_raw_outcomes_are_stored(self):
         """Those of a raw operation are stored by who performs it."""
         catalogue = lr.Catalogue()

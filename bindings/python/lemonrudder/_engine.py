@@ -279,9 +279,10 @@ class Engine(Held):
         self.answer_raw(outcome.body, outcome.order, outcome.status, ticket=ticket)
 
     def answer_unkept(self, outcome: Outcome, *, ticket: Optional[int] = None) -> None:
-        """The same, and nothing is kept here: a repeat comes to you again. Errors as of answer_raw."""
-        answer = getattr(library, "lr_server_answer_unkept", library.lr_server_answer_raw)  # (UNTIL IT LANDS)
-        self._answered(self._ticket(ticket), answer, outcome.status, outcome.order, *lent(outcome.body))
+        """.. and keeps nothing: a store of yours does. Where the request comes again, it comes to you again. The reply
+        carries no service contexts. Errors as of answer_raw, but that LOST means that nothing is kept."""
+        self._answered(self._ticket(ticket), library.lr_server_answer_unkept, outcome.status, outcome.order,
+                       *lent(outcome.body))
 
     def reply_contexts(self, contexts: Sequence[Tuple[int, Octets]], *, ticket: Optional[int] = None) -> None:
         """Ids and data of service contexts for the replies that the next answer of a request makes due, unless it is

@@ -650,6 +650,9 @@ FUNCTIONS: Dict[str, Tuple[str, Tuple[str, ...]]] = {
     )),
     "lr_server_system": ("int64_t", ("lr_server *", "uint64_t", "uint32_t", "uint32_t", "uint32_t")),
     "lr_server_answer_raw": ("int64_t", ("lr_server *", "uint64_t", "uint32_t", "uint32_t", "const void *", "size_t")),
+    "lr_server_answer_unkept": ("int64_t", (
+        "lr_server *", "uint64_t", "uint32_t", "uint32_t", "const void *", "size_t",
+    )),
     "lr_server_identify": ("int64_t", ("lr_server *", "uint64_t")),
     "lr_server_give_up": ("int64_t", ("lr_server *", "uint64_t")),
     "lr_server_refuse": ("int64_t", ("lr_server *", "uint64_t", "uint32_t", "uint32_t")),

@@ -280,7 +280,8 @@ class Works:
         """Answers a request; by a system exception of that name where that is no outcome of its operation."""
         contexts = self._contexts.pop(asked.ticket, None)
         try:
-            if contexts is not None:
+            # (what is not kept goes without)
+            if contexts is not None and not self._is_durable(asked):
                 self._server._engine.reply_contexts(contexts, ticket=asked.ticket)
             answer(*arguments, ticket=asked.ticket)
         except BaseException as error:

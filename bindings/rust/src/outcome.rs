@@ -89,6 +89,21 @@ impl Server {
         self.reply(ticket, outcome.status, outcome.order, &outcome.body)
     }
 
+    /// Answers by a stored outcome of the request, and keeps nothing: a store of yours does. Where
+    /// the request comes again, it comes to you again. The reply carries no service contexts.
+    ///
+    /// # Errors
+    ///
+    /// As of [`answer_raw`](Server::answer_raw), but that of `Lost` nothing is kept.
+    pub fn answer_unkept(&mut self, ticket: Ticket, outcome: &Outcome) -> Result<(), Error> {
+        let (at, size) = (outcome.body.as_ptr().cast(), outcome.body.len());
+        let (status, order) = (outcome.status.number(), outcome.order.number());
+        // SAFETY: the octets are lent.
+        done(unsafe {
+            sys::lr_server_answer_unkept(&mut self.slot, ticket.number(), status, order, at, size)
+        })
+    }
+
     /// Service contexts for the replies that the next answer of a request makes due, unless it is
     /// refused: octets as [`contexts`](crate::write::contexts) writes them in that order, or none.
     /// They take the place of those that were said before, of any request, and are not kept: a
@@ -149,6 +164,15 @@ impl Request<'_> {
     /// As of `answer`, and `Range`.
     pub fn answer_stored(&mut self, outcome: &Outcome) -> Result<(), Error> {
         self.server.answer_stored(self.ticket(), outcome)
+    }
+
+    /// .. and keeps nothing, as [`Server::answer_unkept`] does.
+    ///
+    /// # Errors
+    ///
+    /// As of `answer`, and `Range`.
+    pub fn answer_unkept(&mut self, outcome: &Outcome) -> Result<(), Error> {
+        self.server.answer_unkept(self.ticket(), outcome)
     }
 
     /// Service contexts for its replies, as of [`Server::reply_contexts`].

@@ -86,6 +86,26 @@ fn results_are_stored_and_answered_later() -> Result<(), Error> {
 }
 
 #[test]
+fn unkept_outcomes_are_asked_for_again() -> Result<(), Error> {
+    let mut server = bank::server(100)?;
+    server.connect(1)?;
+    let mut results = Writer::new(Order::Big);
+    results.longlong(5)?;
+    let mut asked = 0;
+    for _ in 0..3 {
+        server.serve(1, NOW, &deposit(Version::V12, 1)?, |request| {
+            asked += 1;
+            let outcome = request.stored(&results)?;
+            request.answer_unkept(&outcome)
+        })?;
+        let body = results.as_octets().to_vec();
+        assert_eq!(reply(&mut server)?, (Status::NoException, Order::Big, body, vec![]));
+    }
+    assert_eq!(asked, 3);
+    Ok(())
+}
+
+#[test]
 fn exceptions_too() -> Result<(), Error> {
     let (mut server, ticket) = parked(1)?;
     let mut members = Writer::new(Order::Little);

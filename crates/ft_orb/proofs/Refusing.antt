@@ -13,10 +13,9 @@ use Rattle.ft_log.specs.Keys.{RequestKey}
 use Rattle.ft_log.specs.Logged as log
 use Rattle.ft_log.specs.Logged.{logged}
 use Rattle.ft_log.specs.Performed.{Performed}
-use Rattle.ft_log.specs.View.{entry_in}
+use Rattle.ft_log.specs.View.{entry_in, performed_in}
 use Rattle.ft_log.specs.declared.held.Held.TheVariants.{Known}
-use Rattle.ft_log.specs.declared.outcome.Outcome.TheVariants.{System}
-use Rattle.ft_log.specs.declared.system_exception.Completion.TheVariants.{No}
+use Rattle.ft_log.specs.declared.outcome.Outcome.{Outcome}
 use Rattle.ft_log.specs.declared.system_exception.SystemName.{SystemName}
 use Rattle.ft_log.specs.declared.system_exception.SystemName.TheVariants.{BadContext}
 use Rattle.ft_objects.specs.Catalogues.{Offer}
@@ -34,7 +33,7 @@ use Rattle.ft_orb.specs.ExactlyOnce.{Absent, Arrival, Bad, Field, Present, Rules
 use Rattle.ft_orb.specs.History.{Event, Piece, Withdrew, clock, origin}
 use Rattle.ft_orb.specs.Outputs.{WritesBy}
 use Rattle.ft_orb.specs.Owners.{OwnerOf, answered_so_far, kept_of, owned_says, owned_table, owner_rules, voice_of}
-use Rattle.ft_orb.specs.Parking.{AsksLate, DeclinesLate, Parks, ResumesLate, Settings, by_number, key_kept, not_now, numbering, put_at, still}
+use Rattle.ft_orb.specs.Parking.{AsksLate, DeclinesLate, Parks, ResumesLate, Settings, by_number, key_kept, numbering, put_at, still}
 use Rattle.ft_orb.specs.Pauses.{Paused}
 use Rattle.ft_orb.specs.Private.{IsPut}
 use Rattle.ft_orb.specs.Requests.{Call, Wanted, asked_at}
@@ -104,14 +103,14 @@ module _ (ask : Wanted → Result Call SystemName) (capacity share : ℕ) where
   pub step-others : (t : Table (List Call) ℕ) (a : Arrival Wanted) → AreBelow (length t.state) t.entries → unexpired a.clock (Others (length t.state) (table_step Numbers t a).0.entries) ≡ unexpired a.clock t.entries
   step-others t a low = field-others t a.clock (Numbers.asked a.content) a.field low
 
--- a log with this refusal kept too, where one is to be
-log-with : (l : log.Shown) (o : Option Retained) (name : SystemName) (minor : ℕ)
-    → (more : log.Shown) × ((logged more).entries ≡ kept_with o (known (not_now name minor)) (logged l).entries) × ((logged more).capacity ≡ (logged l).capacity) × ((logged more).share ≡ (logged l).share)
+-- a log with this outcome kept too, where one is to be
+log-with : (l : log.Shown) (o : Option Retained) (outcome : Outcome)
+    → (more : log.Shown) × ((logged more).entries ≡ kept_with o (known (performed_in outcome)) (logged l).entries) × ((logged more).capacity ≡ (logged l).capacity) × ((logged more).share ≡ (logged l).share)
 unfolding logged
-log-with l None name minor = (l, refl, refl, refl)
-log-with l (Some r) name minor = (
-  record l { entries = l.entries ++ (record { key = r.key; expiration = r.expiration; outcome = Known (System name minor No) }) ∷ [] },
-  map-append entry_in l.entries ((record { key = r.key; expiration = r.expiration; outcome = Known (System name minor No) }) ∷ []),
+log-with l None outcome = (l, refl, refl, refl)
+log-with l (Some r) outcome = (
+  record l { entries = l.entries ++ (record { key = r.key; expiration = r.expiration; outcome = Known outcome }) ∷ [] },
+  map-append entry_in l.entries ((record { key = r.key; expiration = r.expiration; outcome = Known outcome }) ∷ []),
   refl,
   refl,
 )
@@ -142,11 +141,11 @@ cut-as offers s held calls past waiting c moment octets written n m e same h = s
 
 -- What waits is declined.
 module _ {C : Type 0} (offers : C → Offer) (s : Settings) (grow : HearingGrows meaning_in) (stay : EndingsStay meaning_in) (held : ℕ → Holding) (calls : List Call) (old new : Engine C) (past : List Event) (waiting : ℕ → List Waiter) (moment : ℕ) (octets written : List ℕ) (w : Awaited) (x : Pending)
-    (was : pending_in old ≡ Some x) (a : AsksLate offers s held calls old past waiting moment octets written w) (name : SystemName) (minor : ℕ)
+    (was : pending_in old ≡ Some x) (a : AsksLate offers s held calls old past waiting moment octets written w) (outcome : Outcome)
     (catalogue : new.offering ≡ old.offering) (idle : waits_in new ≡ None) (limits : new.limits ≡ old.limits) (greatest : new.greatest ≡ old.greatest) (links : new.links ≡ old.links) (clocks : new.keeper.clock ≡ old.keeper.clock) (logs : new.keeper.log ≡ old.keeper.log)
     (parks : new.parked ≡ old.parked) (places : new.places ≡ old.places) (asks : asks_in new ≡ asks_in old) where
   abbrev Refusal : Performed
-  Refusal = not_now name minor
+  Refusal = performed_in outcome
 
   abbrev Learnt : ℕ → Holding
   Learnt = put_at (length calls) (known Refusal) held
@@ -171,7 +170,7 @@ module _ {C : Type 0} (offers : C → Offer) (s : Settings) (grow : HearingGrows
 
   -- as if it were kept
   more-log : (more : log.Shown) × ((logged more).entries ≡ kept_with x.waiting.retained (known Refusal) (logged old.keeper.log).entries) × ((logged more).capacity ≡ (logged old.keeper.log).capacity) × ((logged more).share ≡ (logged old.keeper.log).share)
-  more-log = log-with old.keeper.log x.waiting.retained name minor
+  more-log = log-with old.keeper.log x.waiting.retained outcome
 
   abbrev Kept : Shown (List Call)
   Kept = record { servant = Later; clock = new.keeper.clock; limits = new.limits; greatest = new.greatest; links = new.links.entries; log = more-log.0 }

@@ -12,6 +12,8 @@ use Rattle.ft_orb.specs.Owners.{owner_rules}
 use Rattle.ft_orb.specs.Requests.{Call, Terms, Wanted, asked_at, asking, locating}
 use Rattle.ft_orb.specs.Table.{Table, table_step}
 use Rattle.ft_orb.specs.declared.counts.Counts.{Counts}
+use Rattle.ft_orb.specs.declared.unkept.Unkept.{Unkept}
+use Rattle.ft_orb.specs.declared.unkept.Unkept.TheVariants as unkept
 
 -- without a key it is performed, or asks for no call
 abbrev pub decision_free : Result Call SystemName → Decision
@@ -59,6 +61,15 @@ one_more n = wrapping_add n 1
 
 abbrev pub no_counts : Counts
 no_counts = record { asked = 0; repeated = 0; joined = 0; expired = 0; malformed = 0; invalid = 0; log_full = 0; share_full = 0; located = 0; dropped = 0; answered = 0; parked = 0; settled = 0; given_up = 0; declined = 0; withdrawn = 0 }
+
+-- the counts once a request was told an outcome of which nothing is kept: one that waited, or was parked
+abbrev pub answered_unkept : Unkept → Counts → Counts
+answered_unkept unkept.Performed n = record n { answered = one_more n.answered }
+answered_unkept unkept.Refusal n = record n { declined = one_more n.declined }
+
+abbrev pub settled_unkept : Unkept → Counts → Counts
+settled_unkept unkept.Performed n = record n { settled = one_more n.settled }
+settled_unkept unkept.Refusal n = record n { withdrawn = one_more n.withdrawn }
 
 -- the counts once this became of one more
 abbrev pub counted_with : Counts → Decision → Counts

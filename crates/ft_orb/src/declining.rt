@@ -7,11 +7,9 @@ ghost use Rattle.ft_orb.specs.History.{completed};
 ghost use Rattle.ft_orb.specs.Owners.{Owner};
 ghost use Rattle.ft_orb.specs.Requests.{Call};
 
-use crate::counts::count;
-use crate::desk::Step;
-use crate::ending::{Ended, Ending};
 use crate::engine::Engine;
 use crate::error::{CloseError, ServeError};
+use crate::unkept::Unkept;
 use ft_log::{Completion, Outcome, SystemName};
 use ft_objects::Catalogue;
 use giop_core::write_close;
@@ -68,21 +66,8 @@ impl<C: Catalogue + Drop> Engine<C> {
         ensures ended { OnOk result (AreEndings self.old self.new) }
         ensures short { (w : Awaited) → waits_in self.old ≡ Some w → OnErr result (EndsLast self.new w.connection OutOfMemory) }
     {
-        giop_link::laws::streams_are_heard::<giop_link::Server>();
-        let Some(ask) = self.asking.take() else {
-            return Ok(());
-        };
-        count(&mut self.keeper.counts.declined);
-        if let Step::Answered = self.keeper.refuse(name, minor, out) {
-            return Ok(());
-        }
-        self.links.remove(&ask.connection);
-        let (connection, why) = (ask.connection, Ending::Memory);
-        self.keeper.ended = Some(Ended { connection, why });
-        Err(ServeError::Memory {
-            handled: ask.place.handled,
-            answered: ask.place.handled,
-        })
+        let outcome = Outcome::System(name, minor, Completion::No);
+        self.tell(number, &outcome, Unkept::Refusal, out)
     }
 
     /// Declines the request that is parked under this number, as `can_settle` tests of that system exception with
@@ -103,12 +88,8 @@ impl<C: Catalogue + Drop> Engine<C> {
         ensures counted { counts_in self.new ≡ record (counts_in self.old) { withdrawn = one_more (counts_in self.old).withdrawn } }
         ensures ended { AreEndings self.old self.new }
     {
-        if let Some(parked) = self.parked.requests.get_mut(&number) {
-            let retained = parked.pending.waiting.retained.take();
-            parked.outcome = Some(Outcome::System(name, minor, Completion::No));
-            self.keeper.withdraw(retained, number);
-            count(&mut self.keeper.counts.withdrawn);
-        }
+        let outcome = Outcome::System(name, minor, Completion::No);
+        self.tell_parked(number, outcome, Unkept::Refusal);
     }
 
     /// Gives up the request of this number, which waits (`is_open`), as `give_up` does, and says goodbye first: appends

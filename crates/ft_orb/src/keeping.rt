@@ -8,14 +8,13 @@ ghost use Rattle.ft_log.specs.Logged.{logged};
 ghost use Rattle.ft_log.specs.View.{performed_in};
 ghost use Rattle.ft_objects.specs.Replies.{IsRenderable};
 ghost use Rattle.ft_orb.specs.Carrying.{FitsBehind, reply_with};
-ghost use Rattle.ft_orb.specs.Parking.{not_now};
 ghost use Rattle.ft_orb.specs.Private.{IsPut};
 ghost use Rattle.ft_orb.specs.Tellings.{reply_by};
 ghost use Rattle.ft_orb.specs.Waits.{IsReady, filled_with, kept_with, without_parked};
 
 use crate::desk::{Step, forget_expired};
 use crate::keeper::{Keeper, Retained};
-use ft_log::{Completion, Outcome, SystemName};
+use ft_log::Outcome;
 
 impl Keeper {
     /// Keeps an outcome, if it is to be kept.
@@ -84,17 +83,17 @@ impl Keeper {
         }
     }
 
-    /// Answers the request in the slot with a system exception and COMPLETED_NO, and keeps nothing.
-    pub(crate) fn refuse(&mut self, name: SystemName, minor: u32, out: &mut Vec<u8>) -> Step
-        ensures put { IsPut (reply_by self.old.slot.asker.wish self.old.slot.asker.version self.old.slot.asker.request_id (not_now name minor)) result out.old.items out.new.items }
+    /// Answers the request in the slot with an outcome, and keeps nothing.
+    pub(crate) fn tell(&mut self, outcome: &Outcome, out: &mut Vec<u8>) -> Step
+        requires renderable { IsRenderable (performed_in outcome.now) }
+        ensures put { IsPut (reply_by self.old.slot.asker.wish self.old.slot.asker.version self.old.slot.asker.request_id (performed_in outcome.now)) result out.old.items out.new.items }
         ensures log { self.new.log ≡ self.old.log }
         ensures slot { self.new.slot.retained ≡ None }
         ensures clock { self.new.clock ≡ self.old.clock }
         ensures counts { self.new.counts ≡ self.old.counts }
         ensures ended { self.new.ended ≡ self.old.ended }
     {
-        let outcome = Outcome::System(name, minor, Completion::No);
-        let step = self.slot.asker.answer(&outcome, out);
+        let step = self.slot.asker.answer(outcome, out);
         self.slot.retained = None;
         self.slot.arguments.clear();
         step

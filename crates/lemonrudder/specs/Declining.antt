@@ -1,8 +1,9 @@
--- What a call does by which a request is not performed now: it is refused, or goodbye is said on its connection.
+-- What a call does of which nothing is kept: a request is told what its owner has stored, or is refused, or goodbye is said on its
+-- connection.
 use Rattle.std.specs.Prelude.{◌≡◌, ◌⊎◌, ℕ, ◌<◌, List, ◌++◌, length, Result, Ok, Err}
 use Rattle.giop_link.specs.Linking.{close_connection}
 use Rattle.ft_log.specs.Holding.{Holding}
-use Rattle.ft_log.specs.Performed.{Performed}
+use Rattle.ft_log.specs.Performed.{Performed, raw}
 use Rattle.ft_objects.specs.Families.{families_offer}
 use Rattle.ft_orb.specs.declared.ending.Ending.TheVariants.{GivenUp}
 use Rattle.ft_orb.specs.declared.error.ServeError.{ServeError}
@@ -19,13 +20,13 @@ use Rattle.lemonrudder.specs.declared.serving.Serving.{Serving}
 use Rattle.lemonrudder.specs.declared.serving.questions.Found.{Found}
 use Rattle.lemonrudder.specs.declared.serving.questions.Found.TheVariants as found
 use Rattle.lemonrudder.specs.Late.{ForgetsLate, WhereAsks}
-use Rattle.lemonrudder.specs.Naming.{system_name_named}
-use Rattle.lemonrudder.specs.Outcomes.{ByName}
+use Rattle.lemonrudder.specs.Naming.{order_named, raw_status_named, system_name_named}
+use Rattle.lemonrudder.specs.Outcomes.{ByName, CanBe, UnlessShortFor}
 use Rattle.lemonrudder.specs.Refusals.{refusal_of_serving}
-use Rattle.lemonrudder.specs.Serves.{ByCalled, ByTicket, ChangesDue, IsIdle, IsSame, KeepsCatalogue, KeepsTickets, NotesWhy, done_of, owed_on}
+use Rattle.lemonrudder.specs.Serves.{ByCalled, ByTicket, ChangesDue, IsIdle, IsRefused, IsSame, KeepsCatalogue, KeepsTickets, NotesWhy, done_of, owed_on}
 use Rattle.lemonrudder.specs.Settling.{Withdraws}
 
--- The refusal is due after what was, where a reply is wished for, and nothing is kept. Or memory is short for it: the request is given
+-- The outcome is due after what was, where a reply is wished for, and nothing is kept. Or memory is short for it: the request is given
 -- up, and nothing more is due.
 abbrev pub Declines : ℕ → Performed → Serving → Serving → Result (Unit {0}) ServeError → Type 0
 Declines c outcome s t (Ok done) = WhereAsks s (λ x held calls past waiting moment octets written w.
@@ -34,18 +35,26 @@ Declines c outcome s t (Err e) = (owed_on t c ≡ owed_on s c) × (n : ℕ) × (
     × ((x : Settings) (held : ℕ → Holding) (calls : List Call) (past : List Event) (waiting : ℕ → List Waiter) (moment : ℕ) (octets written : List ℕ) (w : Awaited) (a : AsksLate families_offer x held calls s.engine past waiting moment octets written w)
     → 0 < length (reply_to outcome (waiter_of w.connection a.asks.question)))
 
--- the request that waits, which came on a connection, is refused
+-- the request that waits, which came on a connection, is told this
 abbrev pub DeclinesAsked : ℕ → Performed → Serving → Serving → Result ℕ Refusal → Type 0
 DeclinesAsked c outcome s t r = (o : Result (Unit {0}) ServeError) × (r ≡ done_of 0 refusal_of_serving o) × IsIdle t × ChangesDue c s t × KeepsCatalogue s t × KeepsTickets s t × Declines c outcome s t o × NotesWhy c s t
 
 -- .. or one that is parked
-abbrev pub Refuses : Found → Performed → Serving → Serving → Result ℕ Refusal → Type 0
-Refuses (found.Waits number c) outcome s t r = DeclinesAsked c outcome s t r
-Refuses (found.Parked number) outcome s t r = Withdraws number outcome s t r
+abbrev pub Tells : Found → Performed → Serving → Serving → Result ℕ Refusal → Type 0
+Tells (found.Waits number c) outcome s t r = DeclinesAsked c outcome s t r
+Tells (found.Parked number) outcome s t r = Withdraws number outcome s t r
+
+-- an outcome of it is told, and not where it can't be that
+abbrev pub PassesOn : Found → Performed → Serving → Serving → Result ℕ Refusal → Type 0
+PassesOn found outcome s t r = (¬ (CanBe found outcome s) → IsRefused refusal.Outcome s t r) × (CanBe found outcome s → Tells found outcome s t r)
+
+-- the request of a ticket is told the body of a reply that its owner has stored
+abbrev pub OnAnswerUnkept : (ticket status order : ℕ) → List ℕ → Serving → Serving → Result ℕ Refusal → Type 0
+OnAnswerUnkept ticket status order body s t r = ByName (raw_status_named status) s t r (λ n. ByName (order_named order) s t r (λ o. ByCalled ticket s t r (λ found w. UnlessShortFor body s t r (PassesOn found (raw n o body) s t r))))
 
 -- the request of a ticket is refused, by a system exception with COMPLETED_NO
 abbrev pub OnRefuse : (ticket name minor : ℕ) → Serving → Serving → Result ℕ Refusal → Type 0
-OnRefuse ticket name minor s t r = ByName (system_name_named name) s t r (λ n. ByCalled ticket s t r (λ found w. Refuses found (not_now n minor) s t r))
+OnRefuse ticket name minor s t r = ByName (system_name_named name) s t r (λ n. ByCalled ticket s t r (λ found w. Tells found (not_now n minor) s t r))
 
 -- Goodbye is said first (GIOP 9.4.7), and the request of a ticket is given up, which waits. Where somebody waits on its connection for the
 -- outcome of a request that is parked, or memory is short, nothing has changed, and it waits still.

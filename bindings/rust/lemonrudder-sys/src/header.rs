@@ -431,6 +431,14 @@ unsafe extern "C" {
         body: *const c_void,
         size: usize,
     ) -> i64;
+    pub fn lr_server_answer_unkept(
+        server: &mut lr_slot,
+        ticket: u64,
+        status: u32,
+        order: u32,
+        body: *const c_void,
+        size: usize,
+    ) -> i64;
     pub safe fn lr_server_identify(server: &mut lr_slot, ticket: u64) -> i64;
     pub safe fn lr_server_give_up(server: &mut lr_slot, ticket: u64) -> i64;
     pub safe fn lr_server_refuse(server: &mut lr_slot, ticket: u64, name: u32, minor: u32) -> i64;

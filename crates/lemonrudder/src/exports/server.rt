@@ -3,7 +3,7 @@
 
 ghost use Rattle.std.specs.Prelude.{◌≡◌, ◌≤ℤ◌, pos};
 ghost use Rattle.lemonrudder.specs.Answers.{OnServer};
-ghost use Rattle.lemonrudder.specs.Declining.{OnGoodbye, OnRefuse};
+ghost use Rattle.lemonrudder.specs.Declining.{OnAnswerUnkept, OnGoodbye, OnRefuse};
 ghost use Rattle.lemonrudder.specs.Hosting.{Hosts, Leaves, OpensServer};
 ghost use Rattle.lemonrudder.specs.Outcomes.{OnAnswer, OnAnswerRaw, OnIdentify, OnRaise, OnSystem};
 ghost use Rattle.lemonrudder.specs.Pairs.{OnServerAndCatalogue};
@@ -249,6 +249,24 @@ pub extern "C" fn lr_server_answer_raw(
     slot.server(
         alloc,
         &mut |server| server.answer_raw(ticket, status, order, body),
+    )
+}
+
+/// Answers by an outcome that its owner has stored, and keeps nothing.
+#[unsafe(no_mangle)]
+pub extern "C" fn lr_server_answer_unkept(
+    alloc: Global,
+    slot: &mut Slot,
+    ticket: u64,
+    status: u32,
+    order: u32,
+    body: &[u8],
+) -> i64
+    ensures { OnServer (OnAnswerUnkept ticket status order body.now) (held_in slot.old) (held_in slot.new) result }
+{
+    slot.server(
+        alloc,
+        &mut |server| server.answer_unkept(ticket, status, order, body),
     )
 }
 

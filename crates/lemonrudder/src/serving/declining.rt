@@ -1,40 +1,77 @@
 //! Requests that are not performed now, and may come again.
 
+ghost use Rattle.ft_log.specs.View.{performed_in};
+ghost use Rattle.ft_objects.specs.Replies.{IsRenderable};
 ghost use Rattle.ft_orb.specs.Engines.{waits_in};
-ghost use Rattle.ft_orb.specs.Parking.{not_now};
 
-use crate::named::system_name_of;
+use crate::named::{order_of, raw_status_of, system_name_of};
 use crate::refusal::Refusal;
 use crate::serving::Serving;
+use crate::serving::outcomes::copy_of;
 use crate::serving::questions::Found;
-use ft_log::SystemName;
-use ft_orb::CloseError;
+use ft_log::{Completion, Outcome};
+use ft_orb::{CloseError, Unkept};
 
 impl Serving {
-    ghost use Rattle.lemonrudder.specs.Declining.{DeclinesAsked, OnGoodbye, OnRefuse};
+    ghost use Rattle.lemonrudder.specs.Declining.{DeclinesAsked, OnAnswerUnkept, OnGoodbye, OnRefuse, PassesOn};
     ghost use Rattle.lemonrudder.specs.Tickets.{IsFound};
     ghost use Rattle.lemonrudder.specs.declared.serving.questions.Found.TheVariants.{Waits};
 
-    /// Refuses the request that waits, for now.
-    fn decline(
+    /// Tells an outcome to the request that waits, and keeps nothing.
+    fn tell_asked(
         &mut self,
         number: u64,
         connection: u64,
-        name: SystemName,
-        minor: u32,
+        outcome: &Outcome,
+        unkept: Unkept,
     ) -> Result<u64, Refusal>
         requires found { IsFound (Waits number connection) (waits_in self.old.engine) }
-        ensures { DeclinesAsked connection (not_now name minor) self.old self.new result }
+        requires renderable { IsRenderable (performed_in outcome.now) }
+        ensures { DeclinesAsked connection (performed_in outcome.now) self.old self.new result }
     {
         let mut due = self.connections.take(connection);
-        let declined = self.engine.decline(number, name, minor, &mut due.octets);
+        let told = self.engine.tell(number, outcome, unkept, &mut due.octets);
         self.connections.put(connection, due);
         let why = self.engine.ending(connection);
         self.connections.note(connection, why);
-        match declined {
+        match told {
             Ok(()) => Ok(0),
             Err(error) => Err(Refusal::from(error)),
         }
+    }
+
+    /// .. to one that waits or is parked, where it may be its outcome.
+    fn pass_on(&mut self, found: Found, outcome: Outcome) -> Result<u64, Refusal>
+        requires found { IsFound found (waits_in self.old.engine) }
+        ensures { PassesOn found (performed_in outcome) self.old self.new result }
+    {
+        if !self.can_be(found, &outcome) {
+            return Err(Refusal::Outcome);
+        }
+        match found {
+            Found::Waits(number, connection) => {
+                self.tell_asked(number, connection, &outcome, Unkept::Performed)
+            }
+            Found::Parked(number) => self.tell_parked(number, outcome, Unkept::Performed),
+        }
+    }
+
+    /// Answers by an outcome that its owner has stored.
+    pub fn answer_unkept(
+        &mut self,
+        ticket: u64,
+        status: u32,
+        order: u32,
+        body: &[u8],
+    ) -> Result<u64, Refusal>
+        ensures { OnAnswerUnkept ticket status order body.now self.old self.new result }
+    {
+        let status = raw_status_of(status)?;
+        let order = order_of(order)?;
+        let called = self.called_by(ticket)?;
+        let found = called.found;
+        let body = copy_of(self.alloc, body)?;
+        self.pass_on(found, Outcome::Raw(status, order, body))
     }
 
     /// Refuses the request of a ticket, for now: the one that waits, or one that is parked.
@@ -43,9 +80,12 @@ impl Serving {
     {
         let name = system_name_of(name)?;
         let called = self.called_by(ticket)?;
+        let outcome = Outcome::System(name, minor, Completion::No);
         match called.found {
-            Found::Waits(number, connection) => self.decline(number, connection, name, minor),
-            Found::Parked(number) => self.withdraw(number, name, minor),
+            Found::Waits(number, connection) => {
+                self.tell_asked(number, connection, &outcome, Unkept::Refusal)
+            }
+            Found::Parked(number) => self.tell_parked(number, outcome, Unkept::Refusal),
         }
     }
 

@@ -8,7 +8,7 @@ ghost use Rattle.ft_objects.specs.Families.{families_offer};
 ghost use Rattle.ft_orb.specs.declared.parked.Waiter.{Waiter};
 ghost use Rattle.ft_orb.specs.Deeds.{Told};
 ghost use Rattle.ft_orb.specs.History.{Event};
-ghost use Rattle.ft_orb.specs.Parking.{AreParked, Settings, Stays, left_in, not_now, parked_in, told_in};
+ghost use Rattle.ft_orb.specs.Parking.{AreParked, Settings, Stays, left_in, parked_in, told_in};
 ghost use Rattle.ft_orb.specs.Requests.{Call};
 ghost use Rattle.giop_core.specs.Items.{item_at};
 ghost use Rattle.lemonrudder.specs.Replying.{Carries, Contexts};
@@ -16,8 +16,8 @@ ghost use Rattle.lemonrudder.specs.Replying.{Carries, Contexts};
 use crate::refusal::Refusal;
 use crate::serving::Serving;
 use crate::serving::replying::reply_carrying;
-use ft_log::{Completion, Outcome, SystemName};
-use ft_orb::Ending;
+use ft_log::Outcome;
+use ft_orb::{Ending, Unkept};
 
 impl Serving {
     ghost use Rattle.lemonrudder.specs.Outcomes.{CanBe};
@@ -92,23 +92,20 @@ impl Serving {
         Ok(count)
     }
 
-    /// Declines the request that is parked under a number.
-    pub(super) fn withdraw(
+    /// Tells an outcome to all who wait for the request that is parked under a number, and keeps nothing.
+    pub(super) fn tell_parked(
         &mut self,
         number: u64,
-        name: SystemName,
-        minor: u32,
+        outcome: Outcome,
+        unkept: Unkept,
     ) -> Result<u64, Refusal>
         requires idle { IsIdle self.old }
-        ensures { Withdraws number (not_now name minor) self.old self.new result }
+        ensures { Withdraws number (performed_in outcome) self.old self.new result }
     {
-        if !self
-            .engine
-            .can_settle(number, &Outcome::System(name, minor, Completion::No))
-        {
+        if !self.engine.can_settle(number, &outcome) {
             return Err(Refusal::Outcome);
         }
-        self.engine.withdraw(number, name, minor);
+        self.engine.tell_parked(number, outcome, unkept);
         self.tell_all(number, &[]);
         Ok(0)
     }

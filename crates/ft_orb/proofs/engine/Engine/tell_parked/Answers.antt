@@ -3,8 +3,6 @@ use Rattle.std.proofs.lemmas.Grind.{common_steps}
 use Rattle.std.specs.BTreeMap.{get}
 use Rattle.std.specs.Ordering.{nat_cmp}
 use Rattle.ft_log.specs.Logged.{logged}
-use Rattle.ft_log.specs.declared.outcome.Outcome.TheVariants.{System}
-use Rattle.ft_log.specs.declared.system_exception.Completion.TheVariants.{No}
 use Rattle.ft_orb.specs.declared.keeper.Retained.{Retained}
 use Rattle.ft_orb.specs.declared.parked.Parked.{Parked}
 use Rattle.ft_orb.specs.Parking.{parked_at}
@@ -12,7 +10,7 @@ use Rattle.ft_orb.specs.Waits.{without_parked}
 use Rattle.ft_orb.proofs.Countings.{counted-moved, few-written}
 use Rattle.ft_orb.proofs.LettingGo.{withdraws}
 use Rattle.ft_orb.proofs.Owning.{still-idle}
-use Rattle.ft_orb.proofs.engine.Engine.withdraw.Goals as goal
+use Rattle.ft_orb.proofs.engine.Engine.tell_parked.Goals as goal
 
 pub returns-in-Some-clause-late : goal.returns-in-Some-clause-late
 returns-in-Some-clause-late g c s held calls past waiting h =
@@ -21,7 +19,7 @@ returns-in-Some-clause-late g c s held calls past waiting h =
     let q : Parked = record {
       pending = record p.pending { waiting = record p.pending.waiting { retained = c.take-retained.new.self } };
       waiters = p.waiters;
-      outcome = Some (System c.args.name c.args.minor No);
+      outcome = Some c.args.outcome;
       short = c.parked-1.given.0;
       renderable = c.parked-1.given.1.0;
     } in

@@ -4,6 +4,7 @@ use Rattle.std.specs.BTreeMap.{get}
 use Rattle.std.specs.Option.{option_map_or}
 use Rattle.ft_log.specs.Logged as log
 use Rattle.ft_log.specs.Logged.{logged}
+use Rattle.ft_log.specs.View.{performed_in}
 use Rattle.ft_orb.specs.declared.answering.Asker.{Asker}
 use Rattle.ft_orb.specs.declared.pausing.Ask.{Ask}
 use Rattle.ft_orb.specs.declared.pausing.Pending.{Pending}
@@ -13,21 +14,21 @@ use Rattle.ft_orb.specs.declared.desk.Step.{Step}
 use Rattle.ft_orb.specs.declared.events.Note.TheVariants.{Memory}
 use Rattle.ft_orb.specs.Pause.{pending_by, pending_of}
 use Rattle.ft_orb.specs.Parked.{going_in}
-use Rattle.ft_orb.specs.Parking.{by_number, not_now, numbering, others_of}
+use Rattle.ft_orb.specs.Parking.{by_number, numbering, others_of}
 use Rattle.ft_orb.specs.Private.{IsPut}
 use Rattle.ft_orb.specs.Tellings.{nothing_yet, reply_by}
 use Rattle.ft_orb.proofs.Meanwhile.{leaves-late}
 use Rattle.ft_orb.proofs.Others.{links-others}
 use Rattle.ft_orb.proofs.Owning.{given-count, given-up, idle-by}
 use Rattle.ft_orb.proofs.Refusing.{cut-as, declines, unput}
-use Rattle.ft_orb.proofs.engine.Engine.decline.Goals as goal
+use Rattle.ft_orb.proofs.engine.Engine.tell.Goals as goal
 
 pub returns-in-Answered-clause-late : goal.returns-in-Answered-clause-late
 returns-in-Answered-clause-late g c s held calls past waiting moment octets written w a =
     let slot = c.args.self.now.keeper.slot in
-    declines g.C.Catalogue.offers s c.streams_are_heard.ensures.grows c.streams_are_heard.ensures.stays held calls c.args.self.now _ past waiting moment octets written w (pending_by slot c.in-Some.ask) (ap (pending_of slot) (sym c.take.ensures.value ∙ c.in-Some.is)) a c.args.name c.args.minor
-    refl (idle-by (ap (pending_of _) c.take.ensures.after)) refl refl refl c.refuse.ensures.clock c.refuse.ensures.log refl refl refl c.args.out.now.items c.refuse.new.out.items
-    (subst (λ (step : Step). IsPut (reply_by slot.asker.wish slot.asker.version slot.asker.request_id (not_now c.args.name c.args.minor)) step c.args.out.now.items c.refuse.new.out.items) c.in-Answered.is c.refuse.ensures.put)
+    declines g.C.Catalogue.offers s c.streams_are_heard.ensures.grows c.streams_are_heard.ensures.stays held calls c.args.self.now _ past waiting moment octets written w (pending_by slot c.in-Some.ask) (ap (pending_of slot) (sym c.take.ensures.value ∙ c.in-Some.is)) a c.args.outcome.now
+    refl (idle-by (ap (pending_of _) c.take.ensures.after)) refl refl refl c.tell.ensures.clock c.tell.ensures.log refl refl refl c.args.out.now.items c.tell.new.out.items
+    (subst (λ (step : Step). IsPut (reply_by slot.asker.wish slot.asker.version slot.asker.request_id (performed_in c.args.outcome.now)) step c.args.out.now.items c.tell.new.out.items) c.in-Answered.is c.tell.ensures.put)
 
 pub returns-clause-given_up : goal.returns-clause-given_up
 returns-clause-given_up g c s held calls past waiting moment octets written w a =
@@ -39,14 +40,14 @@ returns-clause-given_up g c s held calls past waiting moment octets written w a 
     cut-as g.C.Catalogue.offers s held calls past waiting w.connection moment octets written (handled_in c.args.self.now) c.in-Some.ask.place.handled _ handled
     (leaves-late g.C.Catalogue.offers s c.streams_are_heard.ensures.stays held calls c.args.self.now _ past waiting moment octets written w (Memory c.in-Some.ask.place.handled c.in-Some.ask.place.handled) [] [] a refl refl refl (
     given-up g.C.Catalogue.offers (numbering s nothing_yet held) c.streams_are_heard.ensures.grows calls c.args.self.now _ past moment octets written (pending_by slot c.in-Some.ask) w (ap (pending_of slot) asks) a.asks refl (idle-by (ap (pending_of _) c.take.ensures.after))
-    (record { limits = refl; capacity = ap (λ (l : log.Shown). (logged l).capacity) c.refuse.ensures.log; share = ap (λ (l : log.Shown). (logged l).share) c.refuse.ensures.log; greatest = refl; others = others }) c.refuse.ensures.clock (ap (λ (l : log.Shown). (logged l).entries) c.refuse.ensures.log) gone))
+    (record { limits = refl; capacity = ap (λ (l : log.Shown). (logged l).capacity) c.tell.ensures.log; share = ap (λ (l : log.Shown). (logged l).share) c.tell.ensures.log; greatest = refl; others = others }) c.tell.ensures.clock (ap (λ (l : log.Shown). (logged l).entries) c.tell.ensures.log) gone))
 
 pub returns-clause-due : goal.returns-clause-due
 returns-clause-due g c s held calls past waiting moment octets written w a =
     let slot = c.args.self.now.keeper.slot in
     let same : pending_by slot c.in-Some.ask ≡ a.asks.pending = (let both : Some (pending_by slot c.in-Some.ask) ≡ Some a.asks.pending = sym (ap (pending_of slot) (sym c.take.ensures.value ∙ c.in-Some.is)) ∙ a.asks.keeps.waits in cc) in
-    subst (λ (k : Asker). 0 < length (reply_by k.wish k.version k.request_id (not_now c.args.name c.args.minor))) (ap (λ (p : Pending). p.waiting.asker) same ∙ a.asks.asker)
-    (unput (reply_by slot.asker.wish slot.asker.version slot.asker.request_id (not_now c.args.name c.args.minor)) c.refuse.result c.args.out.now.items c.refuse.new.out.items c.in_default-refuse.not-Answered c.refuse.ensures.put)
+    subst (λ (k : Asker). 0 < length (reply_by k.wish k.version k.request_id (performed_in c.args.outcome.now))) (ap (λ (p : Pending). p.waiting.asker) same ∙ a.asks.asker)
+    (unput (reply_by slot.asker.wish slot.asker.version slot.asker.request_id (performed_in c.args.outcome.now)) c.tell.result c.args.out.now.items c.tell.new.out.items c.in_default-tell.not-Answered c.tell.ensures.put)
 
 pub returns-clause-counts : goal.returns-clause-counts
 returns-clause-counts g c s held calls past waiting moment octets written w a =
