@@ -33,7 +33,7 @@
 #define OBJECT "IDL:omg.org/CORBA/Object:1.0"
 #define OVERDRAWN "IDL:Bank/Overdrawn:1.0"
 #define SIZE(text) (sizeof text - 1)
-enum { LIMIT = 4096, NAME = 32, PARKED = 1024, GROUP = 256, PAUSE = 50000000 };
+enum { LIMIT = 4096, NAME = 32, PARKED = 1024, GROUP = 256, PAUSE = 50000000, TRIES = 4 };
 enum { NONE = -1 }; /* no LR_EX_.. */
 
 /* A request, and what came of it. */
@@ -229,16 +229,18 @@ static bool ends(void) {
   return is_end;
 }
 
-/* What is in doubt is done again until the store says. Anything else is declined where the store fails. */
+/* In doubt the store is asked until it says; where it has nothing, it is done again, a few times. Anything else is
+ * declined where the store fails. */
 static void perform_alone(struct job *job) {
+  int tries = 0;
   while (!perform_all(&job, 1)) {
-    if (job->is_in_doubt && job->has_key && !ends()) {
-      nanosleep(&(struct timespec){0, PAUSE}, NULL);
-      continue;
+    tries += job->is_sure ? 1 : 0;
+    if (!job->is_in_doubt || !job->has_key || tries == TRIES || ends()) {
+      job->is_refused = (job->is_sure || !job->has_key) && !job->is_in_doubt;
+      if (job->is_refused) job->refusal = LR_EX_TRANSIENT;
+      break;
     }
-    job->is_refused = (job->is_sure || !job->has_key) && !job->is_in_doubt;
-    if (job->is_refused) job->refusal = LR_EX_TRANSIENT;
-    break;
+    nanosleep(&(struct timespec){0, PAUSE}, NULL);
   }
   hand_over(job);
 }

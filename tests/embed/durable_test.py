@@ -266,6 +266,7 @@ class OverSqlite(unittest.TestCase):
             asyncio.run(declined(bank, "client", "file is not a database"))
         with self.bank(language) as bank:
             bank.begin()
+            self.assertEqual(asyncio.run(balance_of(bank.port, "client")), 0)
             bank.end(signal.SIGTERM)
             self.done(bank.store, "UPDATE forgotten SET version = 7")
             bank.begin()

@@ -20,7 +20,7 @@ if TYPE_CHECKING:
 # how many seconds pass before a store is asked again, at first and at most; how often a request is performed that came
 # to no end; how many octets the body of a reply has at most
 _LEAST, _MOST = 0.02, 1.0
-_TRIES = 8
+_TRIES = 5
 _LONGEST = 1048576
 
 
@@ -42,22 +42,26 @@ class Durable:
         self._said = ""
 
     def begin(self) -> None:
-        """Purges from now on."""
-        if self._purge_every is not None and self._purging is None:
-            self._purging = asyncio.ensure_future(self._purge(self._purge_every))
+        """Opens the store, and purges it from now on."""
+        self._purging = asyncio.ensure_future(self._purge())
 
     def end(self) -> None:
         """Purges no more."""
         if self._purging is not None:
             self._purging.cancel()
 
-    async def _purge(self, seconds: float) -> None:
+    async def _purge(self) -> None:
+        """Says at the beginning whether the store can be used, and purges it from then on."""
+        moment = 0
         while True:
-            await asyncio.sleep(seconds)
             try:
-                await self.store.purge(now())
+                await self.store.purge(moment)
             except Exception as error:
                 self._note(error)
+            if self._purge_every is None:
+                return
+            await asyncio.sleep(self._purge_every)
+            moment = now()
 
     def _note(self, error: BaseException) -> None:
         """Says that the store failed, once for each reason."""
@@ -67,6 +71,7 @@ class Durable:
             self._server.log.error("the store can't be used: %s", text)
 
     def _note_success(self) -> None:
+        """Says that it can be used again, once something was committed."""
         if self._said:
             self._said = ""
             self._server.log.warning("the store can be used again")
@@ -88,7 +93,6 @@ class Durable:
                 raise
             except Exception as error:
                 return self._failed(error)
-            self._note_success()
             if found is not None:
                 return found
             if isinstance(judged.answer, Refuse):
@@ -97,6 +101,7 @@ class Durable:
                 return judged.answer
             ended = await self._attempt(asked, judged.performer)
             if ended is not None:
+                self._note_success()
                 return ended
             is_in_doubt = True
             await asyncio.sleep(delay)
