@@ -1,6 +1,7 @@
 /*
  * The store of bank_store.h in PostgreSQL, by libpq. Several processes may share the database. W is read FOR SHARE where
- * a transaction begins, and a purge takes it FOR UPDATE.
+ * a transaction begins, and a purge takes it FOR UPDATE. Statements are sent in a pipeline: those whose rows don't matter
+ * are not waited for, until rows are asked for, or the transaction is committed.
  */
 #include "bank_store.h"
 
@@ -34,6 +35,8 @@ static const char *const texts[][2] = {
 };
 
 static PGconn *link;
+/* How many statements were sent whose results were not looked at. */
+static int pending;
 
 /* The values of a statement. Numbers have big order. */
 struct values {
@@ -67,26 +70,58 @@ static bool is_well(const PGresult *result) {
   return status == PGRES_TUPLES_OK || status == PGRES_COMMAND_OK;
 }
 
-/* Runs a statement that was prepared; NULL where it fails. */
-static PGresult *run(const char *name, const struct values *values) {
+/* Sends a statement, by its name, or as it is where it has none. */
+static bool ask(const char *name, const char *words, const struct values *values) {
   static const int formats[6] = {1, 1, 1, 1, 1, 1};
   int count = values != NULL ? values->count : 0;
-  PGresult *result = count > 0 ? PQexecPrepared(link, name, count, values->at, values->sizes, formats, 1)
-                               : PQexecPrepared(link, name, 0, NULL, NULL, NULL, 1);
+  const char *const *at = count > 0 ? values->at : NULL;
+  const int *sizes = count > 0 ? values->sizes : NULL;
+  int sent = name != NULL ? PQsendQueryPrepared(link, name, count, at, sizes, formats, 1)
+                          : PQsendQueryParams(link, words, 0, NULL, NULL, NULL, NULL, 1);
+  pending += sent;
+  return sent == 1 || failed(words, NULL);
+}
+
+/* The result of the first statement that was sent and not looked at; NULL where it failed. */
+static PGresult *next(const char *what) {
+  PGresult *result = PQgetResult(link), *more;
+  pending--;
+  while (result != NULL && (more = PQgetResult(link)) != NULL) PQclear(more);
   if (is_well(result)) return result;
-  failed(name, result);
+  failed(what, result);
   PQclear(result);
   return NULL;
 }
 
-/* The same, of one whose rows don't matter. */
-static bool done(const char *name, const struct values *values) {
-  PGresult *result = run(name, values);
-  PQclear(result);
-  return result != NULL;
+/* Looks at the results of all but so many statements. */
+static bool are_done(int but) {
+  while (pending > but) {
+    PGresult *result = next("a statement");
+    PQclear(result);
+    if (result == NULL) return false;
+  }
+  return true;
 }
 
-/* Runs words as they are. */
+/* The rows of a statement; NULL where it failed, or one before it. */
+static PGresult *run(const char *name, const struct values *values) {
+  if (!ask(name, name, values)) return NULL;
+  if (PQsendFlushRequest(link) != 1 || PQflush(link) != 0) return failed(name, NULL), NULL;
+  return are_done(1) ? next(name) : NULL;
+}
+
+/* Ends what was sent, and looks at all that comes of it. */
+static void drain(void) {
+  if (PQstatus(link) != CONNECTION_OK || PQpipelineSync(link) != 1) return;
+  for (bool is_end = false; !is_end && PQstatus(link) == CONNECTION_OK;) {
+    PGresult *result = PQgetResult(link);
+    is_end = result != NULL && PQresultStatus(result) == PGRES_PIPELINE_SYNC;
+    PQclear(result);
+  }
+  pending = 0;
+}
+
+/* Runs words as they are, outside the pipeline. */
 static bool said(const char *words) {
   PGresult *result = PQexec(link, words);
   bool is_done = is_well(result) || failed("the database", result);
@@ -104,6 +139,7 @@ static uint64_t number_in(const PGresult *result, int column) {
 static void close_link(void) {
   PQfinish(link);
   link = NULL;
+  pending = 0;
 }
 
 static void be_silent(void *nothing, const char *message) { (void)nothing, (void)message; }
@@ -117,8 +153,9 @@ static bool prepare(void) {
     PQclear(result);
     if (!is_done) return false;
   }
-  PGresult *result = run("version", NULL);
+  PGresult *result = PQenterPipelineMode(link) == 1 ? run("version", NULL) : NULL;
   if (result == NULL) return false;
+  drain();
   char says[64];
   int version = (int)number_in(result, 0);
   PQclear(result);
@@ -134,7 +171,7 @@ static bool open_link(const char *name) {
 }
 
 static bool begin(uint64_t *least) {
-  PGresult *result = said("BEGIN") ? run("least", NULL) : NULL;
+  PGresult *result = ask(NULL, "BEGIN", NULL) ? run("least", NULL) : NULL;
   if (result == NULL) return false;
   *least = number_in(result, 0);
   PQclear(result);
@@ -142,17 +179,24 @@ static bool begin(uint64_t *least) {
 }
 
 static bool commit(void) {
-  /* (COMMIT of a transaction that failed is done, and says ROLLBACK) */
-  bool is_sent = PQsendQuery(link, "COMMIT") == 1, is_done = false;
+  bool is_sent = ask(NULL, "COMMIT", NULL) && PQpipelineSync(link) == 1;
   bank_reach("committing");
-  for (PGresult *result; (result = PQgetResult(link)) != NULL; PQclear(result)) {
-    is_done = is_well(result) && strcmp(PQcmdStatus(result), "COMMIT") == 0;
-    if (!is_done) failed("COMMIT", result);
-  }
-  return (is_sent && is_done) || failed("COMMIT", NULL);
+  PGresult *result = is_sent && are_done(1) ? next("COMMIT") : NULL;
+  /* (COMMIT of a transaction that failed is done, and says ROLLBACK) */
+  bool is_done = result != NULL && strcmp(PQcmdStatus(result), "COMMIT") == 0;
+  PQclear(result);
+  PQclear(is_done ? PQgetResult(link) : NULL); /* (which is of the sync) */
+  return is_done;
 }
 
-static bool rollback(void) { return PQstatus(link) == CONNECTION_OK && said("ROLLBACK"); }
+static bool rollback(void) {
+  drain();
+  PGresult *result = PQstatus(link) == CONNECTION_OK && ask(NULL, "ROLLBACK", NULL) ? run("version", NULL) : NULL;
+  bool is_done = result != NULL;
+  PQclear(result);
+  drain();
+  return is_done && PQstatus(link) == CONNECTION_OK;
+}
 
 static struct values values_of(const struct key *key) {
   struct values values = {.count = 0};
@@ -184,7 +228,7 @@ static bool keep(const struct key *key, const struct outcome *outcome) {
   add_number(&values, outcome->status, 4);
   add_number(&values, outcome->order, 4);
   add_octets(&values, outcome->body, outcome->size);
-  return done("keep", &values);
+  return ask("keep", "keep", &values);
 }
 
 /* (An account that is not there is opened, so that its row can be locked.) */
@@ -194,7 +238,7 @@ static bool balance(const char *name, int64_t *balance) {
   PGresult *result = run("balance", &values);
   if (result != NULL && PQntuples(result) == 0) {
     PQclear(result);
-    result = done("make", &values) ? run("balance", &values) : NULL;
+    result = ask("make", "make", &values) ? run("balance", &values) : NULL;
   }
   if (result != NULL) *balance = (int64_t)number_in(result, 0);
   PQclear(result);
@@ -205,19 +249,19 @@ static bool set_balance(const char *name, int64_t balance) {
   struct values values = {.count = 0};
   add_octets(&values, name, strlen(name));
   add_number(&values, (uint64_t)balance, 8);
-  return done("set", &values);
+  return ask("set", "set", &values);
 }
 
 static int purge(uint64_t moment) {
   struct values values = {.count = 0}, least = {.count = 0};
   add_number(&values, moment, 8);
-  PGresult *result = done("lock", NULL) ? run("greatest", &values) : NULL;
+  PGresult *result = ask("lock", "lock", NULL) ? run("greatest", &values) : NULL;
   if (result == NULL) return -1;
   int count = PQntuples(result);
   if (count > 0) add_number(&least, number_in(result, 0) + 1, 8);
   PQclear(result);
   if (count == 0) return 0;
-  return done("mark", &least) && done("purge", &values) ? 1 : -1;
+  return ask("mark", "mark", &least) && ask("purge", "purge", &values) ? 1 : -1;
 }
 
 const struct store bank_postgres = {open_link, close_link, begin,       commit, rollback, find,

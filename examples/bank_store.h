@@ -39,7 +39,7 @@ struct store {
   bool (*commit)(void);           /* false: perhaps it is committed, and perhaps not */
   bool (*rollback)(void);         /* false: close it */
   int (*find)(const struct key *key, struct outcome *outcome);         /* 1, or 0 where there is none */
-  bool (*keep)(const struct key *key, const struct outcome *outcome);  /* false also where there is one */
+  bool (*keep)(const struct key *key, const struct outcome *outcome);  /* where there is one it fails, or `commit` */
   bool (*balance)(const char *name, int64_t *balance);                 /* 0, where there is no such account */
   bool (*set_balance)(const char *name, int64_t balance);
   int (*purge)(uint64_t moment); /* in a transaction: takes outcomes out that expire before it, and moves W */

@@ -71,9 +71,7 @@ class SqliteStore:
         if self._opening is None:
             if loop.time() < self._next:
                 raise StoreError(self._failed)
-            self._turn = asyncio.Lock()
-            self._opening = loop.run_in_executor(self._thread, self._open)
-            self._opening.add_done_callback(self._opened)
+            self._opening = loop.create_task(self._begin())
         await asyncio.shield(self._opening)
 
     async def close(self) -> None:
@@ -152,14 +150,17 @@ class SqliteStore:
 
     # ---- on the loop's thread ----
 
-    def _opened(self, opening: asyncio.Future[Any]) -> None:
-        """An attempt to open it has ended."""
-        self._opening = None
-        error = None if opening.cancelled() else opening.exception()
-        if opening.cancelled() or error is not None:
-            self._failed, self._next = str(error), asyncio.get_running_loop().time() + _PAUSE
-        else:
-            self._writer, self._reader = opening.result()
+    async def _begin(self) -> None:
+        """Opens it on the other thread."""
+        loop = asyncio.get_running_loop()
+        try:
+            self._writer, self._reader = await loop.run_in_executor(self._thread, self._open)
+            self._turn = asyncio.Lock()
+        except StoreError as error:
+            self._failed, self._next = str(error), loop.time() + _PAUSE
+            raise
+        finally:
+            self._opening = None
 
     def _new_group(self) -> _Group:
         """A transaction that begins once the one before is committed."""
