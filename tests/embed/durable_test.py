@@ -329,13 +329,13 @@ class OverPostgres(unittest.TestCase):
     def test_two_are_disturbed_in_c(self, seed):
         """One of two is killed or stopped, and the database is restarted."""
         with self.bank("c") as one, self.bank("c") as other:
-            asyncio.run(disturbed([one, other], self.postgres, 18, random.Random(seed), f"c {seed} "))
+            asyncio.run(disturbed([one, other], self.postgres, 9, random.Random(seed), f"c {seed} "))
 
     @base.each_seed(53, 1)
     def test_two_are_disturbed_in_python(self, seed):
         """The same of one in Python and one in C."""
         with self.bank("py") as one, self.bank("c") as other:
-            asyncio.run(disturbed([one, other], self.postgres, 12, random.Random(seed), f"py {seed} "))
+            asyncio.run(disturbed([one, other], self.postgres, 9, random.Random(seed), f"py {seed} "))
 
     @base.each(lambda: LANGUAGES)
     def test_what_was_taken_out_is_not_performed(self, language):
