@@ -10,8 +10,8 @@
  *
  * It prints its reference, and serves until SIGTERM. A deposit with FT_REQUEST that is sent again acts once, also where
  * the process was killed meanwhile, or another one on the same database was asked first: its outcome is looked up, and
- * committed in one transaction with the account before it is answered. A thread does so, with all requests that wait at a
- * time in one transaction. Every so many seconds, or 60, it takes out the outcomes whose requests expired.
+ * committed in one transaction with the account before it is answered. A thread does so, with all requests that wait in
+ * one transaction; every so many seconds, or 60, it takes out outcomes that expired.
  *
  * Where the environment names a point in BANK_DIES_AT, as stored, the process kills itself when it comes there; of
  * stored:3 the third time.
@@ -67,7 +67,9 @@ static struct queue unanswered;
 static pthread_mutex_t lock = PTHREAD_MUTEX_INITIALIZER;
 static pthread_cond_t is_given = PTHREAD_COND_INITIALIZER;
 static struct queue given, made;
-static bool is_over;
+
+/* The loop has ended. */
+static volatile sig_atomic_t is_over;
 
 /* Of the other thread. */
 static bool is_open;
@@ -85,11 +87,6 @@ static struct job *pop(struct queue *queue) {
   struct job *job = queue->first;
   if (job != NULL) queue->first = job->next;
   return job;
-}
-
-static void drop(struct job *job) {
-  if (job != NULL) free(job->outcome.body);
-  free(job);
 }
 
 void bank_reach(const char *point) {
@@ -127,16 +124,6 @@ static bool take_balance(struct outcome *outcome, bool is_overdrawn, int64_t bal
   if (is_overdrawn) lr_put_string(octets, sizeof octets, &out, OVERDRAWN, SIZE(OVERDRAWN));
   lr_put_longlong(octets, sizeof octets, &out, balance);
   return take(outcome, is_overdrawn ? LR_REPLY_USER_EXCEPTION : LR_REPLY_NO_EXCEPTION, octets, out.next);
-}
-
-/* TRANSIENT, COMPLETED_MAYBE: what is answered where it is not known whether the store has an outcome. */
-static size_t put_unknown(unsigned char *octets, size_t size) {
-  static const char id[] = "IDL:omg.org/CORBA/TRANSIENT:1.0";
-  lr_place out = {.order = LR_ORDER_BIG};
-  lr_put_string(octets, size, &out, id, SIZE(id));
-  lr_put_ulong(octets, size, &out, 0);
-  lr_put_ulong(octets, size, &out, LR_COMPLETED_MAYBE);
-  return out.next;
 }
 
 /* ---- the thread of the store ---- */
@@ -179,19 +166,12 @@ static bool perform(struct job *job) {
   return true;
 }
 
-/* What a request came to is forgotten: its transaction was undone. */
-static void forget(struct job *job) {
-  free(job->outcome.body);
-  job->outcome = (struct outcome){.body = NULL};
-}
-
 /* Undoes a transaction, and closes the store where that fails. */
 static void undo(void) {
   complain();
-  if (is_open && !store->rollback()) {
-    store->close();
-    is_open = false;
-  }
+  if (!is_open || store->rollback()) return;
+  store->close();
+  is_open = false;
 }
 
 /* Does so many requests in one transaction. False where it was undone, or where that is not known. */
@@ -204,29 +184,22 @@ static bool perform_all(struct job **jobs, size_t count) {
     is_well = has_begun && is_well && perform(jobs[index]);
   }
   bool is_committed = has_begun && is_well && store->commit();
-  if (is_committed) bank_reach("committed");
-  if (is_committed) said[0] = 0;
+  if (is_committed) bank_reach("committed"), said[0] = 0;
   for (size_t index = 0; index < count && !is_committed; index++) {
-    forget(jobs[index]);
+    free(jobs[index]->outcome.body);
+    jobs[index]->outcome = (struct outcome){.body = NULL};
     jobs[index]->is_in_doubt = jobs[index]->is_in_doubt || (has_begun && is_well);
   }
   if (!is_committed) undo();
   return is_committed;
 }
 
-/* Hands a request to the loop's thread, which answers it. */
+/* The loop's thread answers it. */
 static void hand_over(struct job *job) {
   pthread_mutex_lock(&lock);
   push(&made, job);
   pthread_mutex_unlock(&lock);
   loop_wake();
-}
-
-static bool ends(void) {
-  pthread_mutex_lock(&lock);
-  bool is_end = is_over;
-  pthread_mutex_unlock(&lock);
-  return is_end;
 }
 
 /* In doubt the store is asked until it says; where it has nothing, it is done again, a few times. Anything else is
@@ -235,7 +208,7 @@ static void perform_alone(struct job *job) {
   int tries = 0;
   while (!perform_all(&job, 1)) {
     tries += job->is_sure ? 1 : 0;
-    if (!job->is_in_doubt || !job->has_key || tries == TRIES || ends()) {
+    if (!job->is_in_doubt || !job->has_key || tries == TRIES || is_over) {
       job->is_refused = (job->is_sure || !job->has_key) && !job->is_in_doubt;
       if (job->is_refused) job->refusal = LR_EX_TRANSIENT;
       break;
@@ -245,7 +218,6 @@ static void perform_alone(struct job *job) {
   hand_over(job);
 }
 
-/* (who has several locks takes them in one order) */
 static int compare(const void *left, const void *right) {
   const struct job *one = *(struct job *const *)left, *other = *(struct job *const *)right;
   int order = memcmp(one->name, other->name, NAME);
@@ -270,7 +242,7 @@ static void *work(void *nothing) {
       continue;
     }
     pthread_mutex_unlock(&lock);
-    qsort(jobs, count, sizeof *jobs, compare);
+    qsort(jobs, count, sizeof *jobs, compare); /* (who takes several locks does so in one order) */
     bool is_done = count > 1 && perform_all(jobs, count);
     for (size_t index = 0; index < count; index++) is_done ? hand_over(jobs[index]) : perform_alone(jobs[index]);
     if (time(NULL) >= next) {
@@ -285,13 +257,23 @@ static void *work(void *nothing) {
 
 /* ---- the loop's thread ---- */
 
-/* Answers a request. What the store keeps is not kept here. */
-static int64_t answer(lr_server *server, uint64_t ticket, const struct outcome *outcome) {
+/* Answers TRANSIENT, COMPLETED_MAYBE: it is not known whether the store has an outcome, or will have it. */
+static int64_t answer_unknown(lr_server *server, uint64_t ticket) {
+  static const char id[] = "IDL:omg.org/CORBA/TRANSIENT:1.0";
   unsigned char octets[64];
-  if (outcome != NULL && outcome->body != NULL)
-    return lr_server_answer_unkept(server, ticket, outcome->status, outcome->order, outcome->body, outcome->size);
-  return lr_server_answer_unkept(server, ticket, LR_REPLY_SYSTEM_EXCEPTION, LR_ORDER_BIG, octets,
-                                 put_unknown(octets, sizeof octets));
+  lr_place out = {.order = LR_ORDER_BIG};
+  lr_put_string(octets, sizeof octets, &out, id, SIZE(id));
+  lr_put_ulong(octets, sizeof octets, &out, 0);
+  lr_put_ulong(octets, sizeof octets, &out, LR_COMPLETED_MAYBE);
+  return lr_server_answer_unkept(server, ticket, LR_REPLY_SYSTEM_EXCEPTION, LR_ORDER_BIG, octets, out.next);
+}
+
+/* Answers a request by what the store has done. What the store keeps is not kept here. */
+static int64_t answer(lr_server *server, const struct job *job) {
+  const struct outcome *it = &job->outcome;
+  if (job->is_refused) return lr_server_refuse(server, job->ticket, (uint32_t)job->refusal, 0);
+  if (it->body == NULL) return answer_unknown(server, job->ticket);
+  return lr_server_answer_unkept(server, job->ticket, it->status, it->order, it->body, it->size);
 }
 
 /* Answers those that the store has done. One whose answer finds no memory is answered later. */
@@ -303,13 +285,10 @@ static void settle(lr_server *server) {
   while ((job = pop(&made)) != NULL) push(&ready, job);
   pthread_mutex_unlock(&lock);
   while ((job = pop(&ready)) != NULL) {
-    int64_t done = job->is_refused ? lr_server_refuse(server, job->ticket, (uint32_t)job->refusal, 0)
-                                   : answer(server, job->ticket, &job->outcome);
+    bool is_short = answer(server, job) == LR_E_MEMORY;
     bank_reach("answered");
-    if (done == LR_E_MEMORY)
-      push(&unanswered, job);
-    else
-      drop(job);
+    if (is_short) push(&unanswered, job);
+    if (!is_short) free(job->outcome.body), free(job);
   }
 }
 
@@ -367,7 +346,7 @@ static void perform_asked(lr_server *server, const lr_request *asked) {
                                                     sizeof job->key.client);
   }
   if (job == NULL || lr_server_park(server, asked->ticket) != LR_OK) {
-    if (asked->has_client) answer(server, asked->ticket, NULL);
+    if (asked->has_client) answer_unknown(server, asked->ticket);
     free(job);
     return;
   }
@@ -378,7 +357,6 @@ static void perform_asked(lr_server *server, const lr_request *asked) {
   pthread_mutex_unlock(&lock);
 }
 
-/* Opens a server whose one object takes each request. */
 static int64_t open_server(lr_server *server) {
   lr_catalogue all = LR_INIT;
   uint64_t seeds[2];
@@ -412,7 +390,7 @@ int main(int count, char **words) {
   int served = loop_serve(&server, listener, perform_asked, settle);
   if (served != 0) perror("bank_durable");
   pthread_mutex_lock(&lock);
-  is_over = true;
+  is_over = 1;
   pthread_cond_signal(&is_given);
   pthread_mutex_unlock(&lock);
   pthread_join(worker, NULL);
