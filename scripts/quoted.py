@@ -51,8 +51,8 @@ def last_of(lines: list[str], head: int, language: str) -> int:
     indent = re.match(" *", lines[head])[0]
     if language == "python":
         inner = [index for index in range(head + 1, len(lines)) if lines[index].strip()]
-        ends = (index for index in inner if not lines[index].startswith(indent + " "))
-        return max(index for index in inner if index < next(ends, len(lines)))
+        end = next((index for index in inner if not lines[index].startswith(indent + " ")), len(lines))
+        return max(index for index in inner if index < end)
     if lines[head].endswith((";", "{}")):
         return head
     is_definition = " : " in lines[head] and not re.search(r"\bfn\b", lines[head])

@@ -42,7 +42,7 @@ def modules_of_tests() -> Iterator[str]:
             if name.endswith(".py"):
                 with open(os.path.join(programs.ROOT, folder, name), encoding="utf-8") as file:
                     text = file.read()
-                if re.search(r"^class .*TestCase\):$", text, re.M) and re.search(r"^    +def test\w*\(", text, re.M):
+                if re.search(r"^class .*TestCase\):$", text, re.M) and re.search(r"^    +(?:async )?def test\w*\(", text, re.M):
                     yield f"{folder}/{name[:-3]}".replace("/", ".")
 
 

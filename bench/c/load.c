@@ -2,11 +2,11 @@
  * Clients that call add(7) of a counter as fast as its replies come, each with one request outstanding, or deposit 7 with
  * a bank (examples/bank.idl), each into an account of its own:
  *
- *     load PORT KEY CLIENTS THREADS MILLISECONDS plain|keyed|deposits
+ *     load PORT KEY CLIENTS THREADS MILLISECONDS plain|keyed|deposits[:SECONDS]
  *
  * PORT is one of 127.0.0.1, KEY the object key in hexadecimal digits. The requests are of GIOP 1.2 in big order; those
  * of `keyed` have FT_REQUEST, a client id for each connection, and numbers that rise, which expire a second after they
- * are sent, those of `deposits` a minute. Each thread has its share of the connections, over poll(). A fifth of the time again passes before it counts.
+ * are sent, those of `deposits` a minute, or so many. Each thread has its share of the connections, over poll(). A fifth of the time again passes before it counts.
  *
  * It prints how many replies came in that time, how many seconds it was, the part of it for which its threads
  * were busy, and how many replies came in all. Each reply has to be one without an exception, and the greatest result
@@ -50,6 +50,7 @@ struct thread {
 static struct client clients[MOST_CLIENTS];
 static struct pollfd polls[MOST_CLIENTS];
 static bool are_deposits;
+static uint64_t lasting = 1; /* seconds */
 static double begin, end;
 
 static void fail(const char *what) {
@@ -121,7 +122,7 @@ static void ask(int fd, struct client *client) {
   if (client->number_at > 0) {
     double now = seconds(CLOCK_REALTIME);
     put(client->request + client->number_at, client->calls, 4);
-    put(client->request + client->expiration_at, FIRST_OF_1970 + (uint64_t)(now * SECOND) + (are_deposits ? 60 : 1) * (uint64_t)SECOND, 8);
+    put(client->request + client->expiration_at, FIRST_OF_1970 + (uint64_t)(now * SECOND) + lasting * SECOND, 8);
   }
   if (send(fd, client->request, client->size, MSG_NOSIGNAL) != (ssize_t)client->size) fail("a request can't be sent");
   client->came = 0;
@@ -199,7 +200,8 @@ static int connect_all(char **words) {
     if (sscanf(words[2] + 2 * index, "%2x", &octet) != 1) fail("the key is no hexadecimal digits");
     key[index] = (unsigned char)octet;
   }
-  are_deposits = strcmp(words[6], "deposits") == 0;
+  are_deposits = strncmp(words[6], "deposits", 8) == 0;
+  if (are_deposits) lasting = words[6][8] == ':' ? strtoul(words[6] + 9, NULL, 10) : 60;
   for (int index = 0; index < count; index++) {
     make_request(&clients[index], index, key, size, are_deposits || strcmp(words[6], "keyed") == 0);
     polls[index] = (struct pollfd){connect_to((uint16_t)atoi(words[1])), POLLIN, 0};
@@ -210,7 +212,7 @@ static int connect_all(char **words) {
 int main(int words_count, char **words) {
   static struct thread threads[MOST_THREADS];
   struct thread sum = {0};
-  if (words_count != 7) fail("load PORT KEY CLIENTS THREADS MILLISECONDS plain|keyed|deposits");
+  if (words_count != 7) fail("load PORT KEY CLIENTS THREADS MILLISECONDS plain|keyed|deposits[:SECONDS]");
   int count = connect_all(words), of_threads = atoi(words[4]);
   if (of_threads < 1 || of_threads > MOST_THREADS || of_threads > count) fail("a thread for each client are the most");
   double length = atof(words[5]) / 1000;
