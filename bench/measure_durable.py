@@ -56,13 +56,13 @@ class Measure:
             self.postgres.asked("TRUNCATE outcome; DELETE FROM account")
         return self.postgres.address
 
-    def served(self, words, clients, deposits="deposits"):
+    def served(self, words, clients, milliseconds, deposits="deposits"):
         """The deposits in a second that a bank answers."""
         port = str(free_port())
         words = [port if word == "PORT" else word for word in words]
         with subprocess.Popen(words, stdout=subprocess.PIPE, text=True) as bank:
             bank.stdout.readline()
-            asked = subprocess.run([self.program("load"), port, KEY, str(clients), "1", str(1000 * self.seconds), deposits],
+            asked = subprocess.run([self.program("load"), port, KEY, str(clients), "1", str(milliseconds), deposits],
                                    stdout=subprocess.PIPE, text=True, check=True).stdout.split()
             bank.send_signal(signal.SIGTERM)
         return int(asked[0]) / float(asked[1])
@@ -70,9 +70,10 @@ class Measure:
     def bank(self, kind, clients):
         """.. with its outcomes in memory alone, or in a store."""
         if kind == "memory":
-            # (which has room for those of some seconds)
-            return self.served([self.program("bank"), "127.0.0.1", "PORT"], clients, "deposits:1")
-        return self.served([self.program("bank_durable"), self.store(kind), "127.0.0.1", "PORT"], clients)
+            # (which has room for 65536 outcomes)
+            return self.served([self.program("bank"), "127.0.0.1", "PORT"], clients, 400, "deposits:1")
+        return self.served([self.program("bank_durable"), self.store(kind), "127.0.0.1", "PORT"], clients,
+                           1000 * self.seconds)
 
     def plain(self, kind, clients):
         """The deposits in a second of a database alone, by one writer."""

@@ -33,11 +33,12 @@ int main(void) {
   uint8_t octets[4096] = {0, 0, 0, 7};
   int64_t total = 0;
   sure(lr_catalogue_open(&catalogue));
-  sure(lr_catalogue_object(&catalogue, "counter", 7));
-  sure(lr_catalogue_operation(&catalogue, "counter", 7, "add", 3, long_type, 1, longlong_type, 1));
+  sure(lr_catalogue_object(&catalogue, LR_TEXT("counter")));
+  sure(lr_catalogue_operation(&catalogue, LR_TEXT("counter"), LR_TEXT("add"), long_type, 1, longlong_type, 1));
   sure(lr_server_open(&server, &catalogue, 1, 2)); /* 1, 2: random numbers in a product */
-  sure(lr_client_open(&client, "client 1", 8));
-  sure(lr_client_call(&client, now, now + 600000000, "counter", 7, "add", 3, long_type, 1, LR_ORDER_BIG, octets, 4));
+  sure(lr_client_open(&client, LR_TEXT("client 1")));
+  sure(lr_client_call(&client, now, now + 60 * LR_SECOND, LR_TEXT("counter"), LR_TEXT("add"), long_type, 1,
+                      LR_ORDER_BIG, octets, 4));
 
   for (uint64_t connection = 1; connection <= 2; connection++) {
     lr_request request;

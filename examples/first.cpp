@@ -24,7 +24,7 @@ int main() {
 
   const auto now = lr::now();
   const std::uint8_t types[] = {LR_TYPE_LONG}, seven[] = {0, 0, 0, 7};
-  sure(client.call(now, {"counter", "add", now + 600000000, types, seven}));
+  sure(client.call(now, {"counter", "add", now + 60 * LR_SECOND, types, seven}));
 
   std::int64_t total = 0;
   for (std::uint64_t connection : {1u, 2u}) {

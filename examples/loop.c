@@ -1,7 +1,7 @@
 /*
  * The loop of loop.h, over epoll where there is epoll, and else, or with LOOP_POLL defined, over poll(). Sockets don't
- * block. Peers take turns: in each one a peer is read and fed 4,096 octets at most, for a tenth of a millisecond, and
- * sent what is due. While anything is due to it nothing is read, and nothing is fed while LOOP_DUE octets are due or
+ * block. Peers take turns: in each one a peer is read and fed 4,096 octets at most, for 25 microseconds, and sent
+ * what is due. While anything is due to it nothing is read, and nothing is fed while LOOP_DUE octets are due or
  * LOOP_PARKED requests parked.
  */
 #define _DEFAULT_SOURCE
@@ -22,9 +22,11 @@
 
 /* Octets that are read, fed and sent at a time; how often is sent in a turn, and accepted; and the nanoseconds after
  * which a turn feeds no more. */
-enum { PIECE = 4096, STEP = 1024, ROOM = 16384, SENDS = 4, ACCEPTS = 16, SLICE = 100000 };
+enum { PIECE = 4096, STEP = 1024, ROOM = 16384, SENDS = 4, ACCEPTS = 16, SLICE = 25000 };
 /* Seconds: what a peer has to close once its stream has ended, and a pause where nobody can be accepted. */
 enum { LINGER = 5, PAUSE = 1 };
+/* Nanoseconds from one call of `settle` to the next. */
+static const int64_t TICK = INT64_C(1000000) * LOOP_TICK;
 /* What is waited for: the pipe by which the loop is woken, the socket that listens, and peers. */
 enum { WAKE = 0, LISTENER = 1, FIRST = 2, SLOTS = FIRST + LOOP_PEERS };
 
@@ -350,8 +352,10 @@ static void accept_peers(void) {
       begin(unused[--unused_count], fd);
       continue;
     }
-    /* (without a place or descriptors the socket stays ready, and asking again would be in vain) */
+    /* (without a place or descriptors the socket stays ready, and asking again would be in vain; that one waits is known
+     * at first alone) */
     is_full = is_full || errno == EMFILE || errno == ENFILE || errno == ENOBUFS || errno == ENOMEM;
+    if (count > 0) return;
     if (is_full && make_place()) continue;
     if (is_full) listen_for(false);
     return;
@@ -373,10 +377,13 @@ static void on_ready(size_t slot, bool is_broken) {
   }
 }
 
-/* What is done once a second. */
+/* What is done once a second. A connection that is lost, since there was no memory for the reply to what it had parked,
+ * is found here alone. */
 static void pass(int64_t second) {
-  for (struct peer *peer = peers + FIRST; peer < peers + SLOTS; peer++)
+  for (struct peer *peer = peers + FIRST; peer < peers + SLOTS; peer++) {
     if (peer->fd >= 0) part_in_time(peer, second);
+    if (peer->fd >= 0 && !peer->is_shut && lr_server_is_closed(served, peer->connection) == 1) give_turn(peer);
+  }
   lr_server_tick(served, moment());
   if (listener_fd >= 0) listen_for(true);
 }
@@ -409,13 +416,16 @@ int loop_serve(lr_server *server, int listener, void (*perform)(lr_server *serve
                void (*settle)(lr_server *server)) {
   bool is_well = open_loop(server, listener);
   int64_t last = seconds(), end = INT64_MAX; /* (which is set at SIGTERM) */
+  int64_t tick = nanoseconds() / TICK; /* (all begin at multiples of their length) */
   performs = perform;
   while (is_well && (end == INT64_MAX || unused_count < LOOP_PEERS) && last < end) {
     size_t before = turn_count;
     is_called = is_woken = false;
-    is_well = wait_for(before > 0 ? 0 : 1000);
+    is_well = wait_for(before > 0 ? 0 : (int)((TICK - nanoseconds() % TICK) / 1000000) + 1);
     int64_t second = seconds(); /* (performing may take long, and what comes meanwhile is read by the next turn) */
-    if (settle != NULL && (is_woken || second != last)) settle(server);
+    int64_t now = nanoseconds() / TICK;
+    if (settle != NULL && (is_woken || now != tick)) settle(server);
+    tick = now;
     go_on();
     put_back(before);
     take_turns();

@@ -25,6 +25,10 @@
 #ifndef LOOP_IDLE
 #define LOOP_IDLE 300
 #endif
+/* how many milliseconds pass, 1,000 at most, until `settle` is called again: */
+#ifndef LOOP_TICK
+#define LOOP_TICK 1000
+#endif
 /* and how many seconds after SIGTERM what is parked may be answered. */
 #ifndef LOOP_DRAIN
 #define LOOP_DRAIN 30
@@ -41,7 +45,7 @@ int64_t loop_print(const char *type, size_t type_size, uint32_t minor, const cha
 /* Serves until SIGTERM. Then each peer is told goodbye, behind the replies to what it has parked. `perform` answers the
  * request that waits, or parks it; one that it leaves waiting is refused by TRANSIENT, so of that it must have done
  * nothing.
- * `settle`, or NULL, answers parked requests whose outcome is there: it is called after loop_wake, and every second.
+ * `settle`, or NULL, answers parked requests whose outcome is there: it is called after loop_wake, and every LOOP_TICK.
  * Answers 0, or -1 where errno says why.
  *
  * A peer whose stream has ended has five seconds to close. Where there is no place or descriptor for another one, such

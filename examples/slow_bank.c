@@ -22,7 +22,6 @@
 #define KEY "bank"
 #define TYPE "IDL:Bank:1.0"
 #define OVERDRAWN "IDL:Bank/Overdrawn:1.0"
-#define SIZE(text) (sizeof text - 1)
 enum { LIMIT = 4096, NAME = 32, ACCOUNTS = 100, WORKERS = 64, PARKED = 256 };
 
 struct account {
@@ -152,7 +151,7 @@ static int64_t answer(lr_server *server, uint64_t ticket, int end, int64_t balan
   lr_put_longlong(result, sizeof result, &out, balance);
   if (end == DEPOSITED) return lr_server_answer(server, ticket, LR_ORDER_BIG, result, sizeof result);
   if (end == REFUSED) return lr_server_system(server, ticket, LR_EX_BAD_PARAM, 0, LR_COMPLETED_NO);
-  return lr_server_raise(server, ticket, OVERDRAWN, SIZE(OVERDRAWN), LR_ORDER_BIG, result, sizeof result);
+  return lr_server_raise(server, ticket, LR_TEXT(OVERDRAWN), LR_ORDER_BIG, result, sizeof result);
 }
 
 /* Answers the deposits that were made. One whose answer finds no memory is answered later: what it did is done. */
@@ -205,11 +204,13 @@ static int64_t open_server(lr_server *server) {
   lr_catalogue bank = LR_INIT;
   uint64_t seeds[2];
   int64_t done = getentropy(seeds, sizeof seeds) == 0 ? lr_catalogue_open(&bank) : LR_E_RANGE;
-  if (done == LR_OK) done = lr_catalogue_object(&bank, KEY, SIZE(KEY));
-  if (done == LR_OK) done = lr_catalogue_repository_ids(&bank, KEY, SIZE(KEY), TYPE, sizeof TYPE);
-  if (done == LR_OK) done = lr_catalogue_exception(&bank, OVERDRAWN, SIZE(OVERDRAWN), amount, sizeof amount);
-  if (done == LR_OK) done = lr_catalogue_operation(&bank, KEY, SIZE(KEY), "deposit", 7, both, sizeof both, amount, 1);
-  if (done == LR_OK) done = lr_catalogue_operation(&bank, KEY, SIZE(KEY), "balance", 7, text, sizeof text, amount, 1);
+  if (done == LR_OK) done = lr_catalogue_object(&bank, LR_TEXT(KEY));
+  if (done == LR_OK) done = lr_catalogue_repository_ids(&bank, LR_TEXT(KEY), TYPE, sizeof TYPE);
+  if (done == LR_OK) done = lr_catalogue_exception(&bank, LR_TEXT(OVERDRAWN), amount, sizeof amount);
+  if (done == LR_OK)
+    done = lr_catalogue_operation(&bank, LR_TEXT(KEY), LR_TEXT("deposit"), both, sizeof both, amount, 1);
+  if (done == LR_OK)
+    done = lr_catalogue_operation(&bank, LR_TEXT(KEY), LR_TEXT("balance"), text, sizeof text, amount, 1);
   if (done == LR_OK) done = lr_server_open(server, &bank, seeds[0], seeds[1]);
   if (done == LR_OK) done = lr_server_set(server, LR_SET_MESSAGE, LIMIT);
   if (done == LR_OK) done = lr_server_set(server, LR_SET_PARKED, PARKED);
@@ -245,7 +246,7 @@ int main(int count, char **words) {
   int listener = loop_listen(words[1], &port);
   if (listener < 0) return perror("slow_bank"), 1;
   int64_t done = open_server(&server);
-  if (done == LR_OK) done = loop_print(TYPE, SIZE(TYPE), 2, words[1], port, KEY, SIZE(KEY));
+  if (done == LR_OK) done = loop_print(LR_TEXT(TYPE), 2, words[1], port, LR_TEXT(KEY));
   if (done < 0) return fprintf(stderr, "slow_bank: %s\n", lr_strerror(done)), 1;
   int begun = begin_workers(workers, WORKERS);
   int served = begun == WORKERS ? loop_serve(&server, listener, perform, settle) : -1;

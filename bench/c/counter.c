@@ -14,7 +14,6 @@
 
 #define TYPE "IDL:Counter:1.0"
 #define OVERFLOWS "IDL:Counter/Overflow:1.0"
-#define SIZE(text) (sizeof text - 1)
 enum { LIMIT = 4096, OUTCOMES = 1 << 20, MOST_KEY = 64 };
 
 static int64_t total;
@@ -31,7 +30,7 @@ static void perform(lr_server *server, const lr_request *asked) {
   if (lr_server_part(server, asked->ticket, LR_PART_BODY, body, sizeof body) < 0) return;
   if (operation[0] == 'a') lr_get_long(body, sizeof body, &in, &n);
   if (__builtin_add_overflow(total, n, &sum)) {
-    lr_server_raise(server, asked->ticket, OVERFLOWS, SIZE(OVERFLOWS), LR_ORDER_BIG, NULL, 0);
+    lr_server_raise(server, asked->ticket, LR_TEXT(OVERFLOWS), LR_ORDER_BIG, NULL, 0);
     return;
   }
   lr_put_longlong(result, sizeof result, &out, sum);
@@ -47,7 +46,7 @@ static int64_t open_server(lr_server *server, const void *key, size_t size) {
   int64_t done = getentropy(seeds, sizeof seeds) == 0 ? lr_catalogue_open(&counter) : LR_E_RANGE;
   if (done == LR_OK) done = lr_catalogue_object(&counter, key, size);
   if (done == LR_OK) done = lr_catalogue_repository_ids(&counter, key, size, TYPE, sizeof TYPE);
-  if (done == LR_OK) done = lr_catalogue_exception(&counter, OVERFLOWS, SIZE(OVERFLOWS), NULL, 0);
+  if (done == LR_OK) done = lr_catalogue_exception(&counter, LR_TEXT(OVERFLOWS), NULL, 0);
   if (done == LR_OK) done = lr_catalogue_operation(&counter, key, size, "add", 3, number, 1, result, 1);
   if (done == LR_OK) done = lr_catalogue_operation(&counter, key, size, "get", 3, NULL, 0, result, 1);
   if (done == LR_OK) done = lr_server_open(server, &counter, seeds[0], seeds[1]);
@@ -75,7 +74,7 @@ int main(int count, char **words) {
   int listener = loop_listen("127.0.0.1", &port);
   if (listener < 0) return perror("counter"), 1;
   int64_t done = open_server(&server, key, size);
-  if (done == LR_OK) done = loop_print(TYPE, SIZE(TYPE), 2, "127.0.0.1", port, key, size);
+  if (done == LR_OK) done = loop_print(LR_TEXT(TYPE), 2, "127.0.0.1", port, key, size);
   if (done < 0) return fprintf(stderr, "counter: %s\n", lr_strerror(done)), 1;
   int served = loop_serve(&server, listener, perform, NULL);
   if (served != 0) perror("counter");

@@ -137,7 +137,10 @@ static int64_t take(int fd, struct client *client) {
   if (client->came < 12) return -1;
   bool is_little = (reply[6] & 1) != 0;
   size_t size = 12 + (size_t)get(reply + 8, 4, is_little);
-  if (memcmp(reply, "GIOP\1\2", 6) != 0 || reply[7] != 1 || size != 32) fail("this is no reply with a result");
+  if (memcmp(reply, "GIOP\1\2", 6) != 0 || reply[7] != 1 || size != 32) {
+    if (reply[7] == 1 && size > 60 && client->came == size) fprintf(stderr, "load: %.*s\n", (int)size - 36, reply + 28);
+    fail("this is no reply with a result");
+  }
   if (client->came < size) return -1;
   if (client->came > size || get(reply + 12, 4, is_little) != client->calls) fail("this is another reply");
   if (get(reply + 16, 8, is_little) != 0) fail("the reply is an exception, or has contexts");

@@ -229,6 +229,12 @@ enum {
   LR_TYPE_DOUBLE = LR_TYPE_ULONGLONG
 };
 
+/* A string literal as octets: a pointer and a size, two arguments of a call. */
+#define LR_TEXT(literal) ("" literal), (sizeof("" literal) - 1)
+
+/* How much greater the moment of a second later is. */
+#define LR_SECOND UINT64_C(10000000)
+
 /* A moment, of seconds and nanoseconds since 1970-01-01 00:00 UTC. The greatest, where it lies beyond. */
 LR_API uint64_t lr_moment(uint64_t seconds, uint32_t nanoseconds);
 
@@ -298,8 +304,8 @@ LR_API int64_t lr_catalogue_remove(lr_catalogue *catalogue, const void *key, siz
  * more, others are fed, and once its outcome is there it is answered as one that waits, by its ticket. Parked requests
  * are answered in any order. A repeat of one joins those who wait for its outcome; where so many wait already as
  * LR_SET_JOINED says, it is answered TRANSIENT and LR_COMPLETED_MAYBE. The replies become due on each connection where
- * somebody waits for them: lr_server_next_due names these. A parked request whose connection is lost, or whose
- * expiration passes, is answered all the same.
+ * somebody waits for them: lr_server_next_due names these. A parked request whose connection is lost, whose expiration
+ * passes, or that is cancelled is answered all the same.
  *
  * Each call that answers a request, parks it or gives it up takes its ticket, which a server gives to no other request:
  * so an outcome that comes late is not taken for that of another. Such a call answers the first of these that holds:
@@ -399,7 +405,8 @@ LR_API int64_t lr_server_asked(lr_server *server, lr_request *request, size_t si
 LR_API int64_t lr_server_part(lr_server *server, uint64_t ticket, uint32_t part, void *room, size_t size);
 
 /* Copies the data of a service context of the request that waits, counted from 0, as much of it as the room has octets,
- * gives its id (LR_CONTEXT_.. or another), and answers its size. LR_E_EMPTY, LR_E_IDLE, LR_E_NONE. */
+ * gives its id (LR_CONTEXT_.. or another), and answers its size. It passes over those before it, so to read all takes
+ * the square of their count, which a peer may make large: stop at some. LR_E_EMPTY, LR_E_IDLE, LR_E_NONE. */
 LR_API int64_t lr_server_context(lr_server *server, uint32_t index, uint32_t *id, void *room, size_t size);
 
 /* Parks the request of a ticket, which waits: it waits no more, and is answered later by the same ticket.
@@ -418,7 +425,8 @@ LR_API int64_t lr_server_wanted(lr_server *server, uint64_t ticket);
  * and none left over. As they stand they are kept as its outcome, where it carries FT_REQUEST. A request that wishes no
  * reply is answered all the same. LR_E_EMPTY, LR_E_RANGE, LR_E_TICKET, LR_E_ASKING, LR_E_OUTCOME, LR_E_MEMORY (it waits
  * or is parked still), and of one that waits LR_E_LOST: the outcome counts and is kept, and its reply is lost. Of a
- * parked one a reply for which memory is short loses its own connection alone, and LR_OK is answered. */
+ * parked one a reply for which memory is short loses its own connection alone, and LR_OK is answered: no call names that
+ * connection, so ask lr_server_is_closed of each from time to time. */
 LR_API int64_t lr_server_answer(lr_server *server, uint64_t ticket, uint32_t order, const void *results, size_t size);
 
 /* Whether lr_server_answer would take these results, before what they say is done: LR_OK. Nothing changes. What it
@@ -756,7 +764,7 @@ LR_API int64_t lr_assembler_message(lr_assembler *assembler, lr_message *message
 LR_API int64_t lr_assembler_part(lr_assembler *assembler, uint32_t part, void *room, size_t size);
 
 /* Copies the data of a service context of that message, counted from 0, as much of it as the room has octets, gives
- * its id, and answers its size. LR_E_EMPTY, LR_E_NONE. */
+ * its id, and answers its size; to read all takes as long as by lr_server_context. LR_E_EMPTY, LR_E_NONE. */
 LR_API int64_t lr_assembler_context(lr_assembler *assembler, uint32_t index, uint32_t *id, void *room, size_t size);
 
 /* ---- writing messages ---- */

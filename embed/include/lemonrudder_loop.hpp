@@ -13,6 +13,8 @@
  *     loop.listen("127.0.0.1", 2809);
  *     loop.serve();
  *
+ * Each of these calls says whether it failed, which is to be looked at: examples/bank.cpp does so.
+ *
  * All runs on the thread of serve(). A servant answers at once, or takes a Later of its request, by which any thread
  * may answer when the outcome is there; others are performed meanwhile. What the loop keeps is bounded: of a peer 20
  * KiB here, and in the server what its limits allow. Where memory is short for the loop's own, std::bad_alloc is
@@ -518,7 +520,7 @@ class Loop {
   static constexpr std::size_t piece = 4096;
   static constexpr std::size_t step = 1024;
   static constexpr std::size_t room = 16384;
-  static constexpr std::chrono::microseconds slice{100};
+  static constexpr std::chrono::microseconds slice{25};
   static constexpr int sends = 4;
   static constexpr int accepts = 16;
   // what is waited for: the pipe by which the loop is woken, the socket that listens, and peers
@@ -763,8 +765,10 @@ class Loop {
         begin(std::move(socket));
         continue;
       }
-      // (without a place or descriptors the listener stays ready, and asking again would be in vain)
+      // (without a place or descriptors the listener stays ready, and asking again would be in vain; that one waits is
+      // known at first alone)
       is_full = is_full || errno == EMFILE || errno == ENFILE || errno == ENOBUFS || errno == ENOMEM;
+      if (count > 0) return;
       if (is_full && make_place()) continue;
       if (is_full) listen_for(false);
       return;
@@ -785,11 +789,14 @@ class Loop {
   }
 
   /* What is done once a second: parts from peers whose time is over, at once where they take nothing or their stream
-   * has ended. One that waits for a parked request has more time. */
+   * has ended. One that waits for a parked request has more time. A connection that is lost, since there was no memory
+   * for the reply to what it had parked, is found here alone. */
   void pass(detail::LoopClock::time_point moment) {
     for (std::size_t slot = first; slot < peers_.size(); slot++) {
-      if (!peers_[slot] || moment < peers_[slot]->until) continue;
+      if (!peers_[slot]) continue;
       Peer& peer = *peers_[slot];
+      if (!peer.is_shut && server_.is_closed(peer.connection)) give_turn(peer);
+      if (moment < peer.until) continue;
       if (is_idle(peer))
         part_from(peer);
       else if (!peer.has_unsent() && !server_.is_closed(peer.connection))

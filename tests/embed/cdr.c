@@ -1,4 +1,6 @@
 /* Values of CDR, read and written in both orders at each alignment, against octets that are written out by hand. */
+#include <math.h>
+
 #include "check.h"
 
 enum { ROOM = 64, PLACES = 9, STALE = 0xee };
@@ -245,6 +247,46 @@ static void no_values(void) {
   CHECK(place.next == 4 && start == 4 && length == 0);
 }
 
+/* Floats and doubles, whose octets are those of IEEE 754 (CORBA 3.3 Part 2, 9.3.1.3), at a place that is aligned and at
+ * one that is not. What is no number has its octets too. */
+static void reals(void) {
+  static const struct {
+    double value;
+    const char *single_big, *double_big;
+  } all[] = {
+      {0.0, "\x00\x00\x00\x00", "\x00\x00\x00\x00\x00\x00\x00\x00"},
+      {-0.0, "\x80\x00\x00\x00", "\x80\x00\x00\x00\x00\x00\x00\x00"},
+      {1.5, "\x3f\xc0\x00\x00", "\x3f\xf8\x00\x00\x00\x00\x00\x00"},
+      {-118.625, "\xc2\xed\x40\x00", "\xc0\x5d\xa8\x00\x00\x00\x00\x00"},
+      {HUGE_VAL, "\x7f\x80\x00\x00", "\x7f\xf0\x00\x00\x00\x00\x00\x00"},
+  };
+  static const unsigned char quiet[] = {0x7f, 0xf8, 0, 0, 0, 0, 0, 7};
+  unsigned char room[ROOM];
+  float single = 0;
+  double whole = 0;
+  for (size_t index = 0; index < sizeof all / sizeof *all; index++) {
+    lr_place place = place_of(0, 1, LR_ORDER_BIG);
+    WANT(lr_put_float(room, sizeof room, &place, (float)all[index].value), LR_OK);
+    WANT(lr_put_double(room, sizeof room, &place, all[index].value), LR_OK);
+    CHECK(place.next == 16 && memcmp(room + 4, all[index].single_big, 4) == 0);
+    CHECK(memcmp(room + 8, all[index].double_big, 8) == 0);
+    place.next = 1;
+    WANT(lr_get_float(room, 16, &place, &single), LR_OK);
+    WANT(lr_get_double(room, 16, &place, &whole), LR_OK);
+    CHECK(place.next == 16 && (double)single == all[index].value && whole == all[index].value);
+    CHECK(!signbit(single) == !signbit(all[index].value) && !signbit(whole) == !signbit(all[index].value));
+    WANT(lr_get_float(room, 16, &place, &single), LR_E_SHORT);
+    WANT(lr_get_double(room, 16, &place, &whole), LR_E_SHORT);
+    WANT(lr_put_float(room, 16, &place, 7), LR_E_ROOM);
+    WANT(lr_put_double(room, 16, &place, 7), LR_E_ROOM);
+    CHECK(place.next == 16 && (double)single == all[index].value && whole == all[index].value);
+  }
+  lr_place place = place_of(0, 0, LR_ORDER_BIG), out = place_of(0, 0, LR_ORDER_LITTLE);
+  WANT(lr_get_double(quiet, sizeof quiet, &place, &whole), LR_OK);
+  WANT(lr_put_double(room, sizeof room, &out, whole), LR_OK);
+  for (size_t index = 0; index < 8; index++) CHECK(room[index] == quiet[7 - index]);
+}
+
 /* The empty string, and no octets, lent as NULL. */
 static void nothing_is_written(void) {
   unsigned char room[ROOM];
@@ -287,6 +329,7 @@ int main(void) {
   strings_and_octets();
   encapsulations();
   no_values();
+  reals();
   nothing_is_written();
   no_places();
   return check_end();

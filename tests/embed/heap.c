@@ -139,6 +139,7 @@ static bool perform(struct exchange *exchange) {
   }
   if (answer != LR_E_LOST) return WANT(answer, LR_OK);
   CHECK(tell());
+  WANT(lr_server_why(&server, connection), LR_WHY_MEMORY);
   lost_replies++;
   return false;
 }
@@ -149,6 +150,7 @@ static bool send(struct exchange *exchange) {
   int64_t taken = lr_server_feed(&server, connection, NOW, exchange->request.all, exchange->request.size);
   if (taken == LR_E_LOST) {
     CHECK(tell());
+    WANT(lr_server_why(&server, connection), LR_WHY_MEMORY);
     lost_feeds++;
     return false;
   }
@@ -335,6 +337,7 @@ static void is_due_or_lost(uint64_t on, const struct octets *wanted) {
   int64_t size = lr_server_output(&server, on, room, sizeof room);
   if (size == 0 && lr_server_is_closed(&server, on) == 1) {
     CHECK(tell());
+    WANT(lr_server_why(&server, on), LR_WHY_MEMORY);
     return;
   }
   CHECK(size >= 0 && equal(room, (size_t)size, wanted));
@@ -387,6 +390,55 @@ static void parks(void) {
   if (lr_server_is_closed(&server, connection) == 1) reconnect();
   says_goodbye();
   WANT(lr_server_lost(&server, connection), LR_OK);
+  lr_close(&server);
+}
+
+/* ---- what is stored, and what replies carry ---- */
+
+/* A list of one service context. */
+static const unsigned char one_context[] = {0, 0, 0, 1, 0, 0, 0, LR_CONTEXT_SECURITY, 0, 0, 0, 1, 7};
+
+/* The stored form of an exception, and service contexts for the reply, before the request is answered. */
+static int64_t tells(void) {
+  unsigned char body[64];
+  AGAIN(lr_server_exception(&server, ticket, RAISED, SIZE(RAISED), LR_ORDER_BIG, "\0\0\0\7", 4, body, sizeof body), 24);
+  AGAIN(lr_server_reply_contexts(&server, ticket, LR_ORDER_BIG, one_context, sizeof one_context), LR_OK);
+  return returns();
+}
+
+/* The reply of `tells` has the context; a repeat of it has none. */
+static void make_telling(struct exchange *exchange, struct octets *carried, uint32_t id) {
+  make_exchange(exchange, id, "c", "add", "A", returns);
+  exchange->answer = tells;
+  begin_message(carried, 2, LR_ORDER_BIG, LR_MSG_REPLY);
+  put_number(carried, id, 4);
+  put_number(carried, LR_REPLY_NO_EXCEPTION, 4);
+  put_octets(carried, one_context, sizeof one_context);
+  align(carried, 8);
+  put_number(carried, 6, 4);
+  end_message(carried);
+}
+
+/* One request is answered so at once, and another one while it is parked. */
+static void tells_more(void) {
+  struct exchange exchange;
+  struct octets carried;
+  uint64_t due = 0;
+  long lost = lost_replies;
+  server = (lr_server)LR_INIT;
+  connection = 1;
+  open_server();
+  AGAIN(lr_server_connect(&server, connection), LR_OK);
+  make_telling(&exchange, &carried, 1);
+  for (int tries = 0; tries < 2 && !send(&exchange); tries++) reconnect();
+  int64_t size = lr_server_output(&server, connection, room, sizeof room);
+  CHECK(size >= 0 && equal(room, (size_t)size, lost_replies > lost ? &exchange.reply : &carried));
+  WANT(exchange.asked, 1);
+  make_telling(&exchange, &carried, 2);
+  ticket = park_surely(&exchange);
+  AGAIN(exchange.answer(), LR_OK);
+  while (lr_server_next_due(&server, &due) == 1) CHECK(due == connection);
+  is_due_or_lost(connection, &carried);
   lr_close(&server);
 }
 
@@ -496,9 +548,6 @@ static uint32_t sent_id(void) {
   int64_t size = lr_client_output(&client, room, sizeof room);
   return CHECK(size > 16) ? (uint32_t)room[14] << 8 | room[15] : 0;
 }
-
-/* A list of one service context. */
-static const unsigned char one_context[] = {0, 0, 0, 1, 0, 0, 0, LR_CONTEXT_SECURITY, 0, 0, 0, 1, 7};
 
 /* A call of before is forwarded, and asked for by another key. */
 static void go_on(bool is_raw) {
@@ -668,6 +717,7 @@ static const struct {
   void (*script)(void);
 } scripts[] = {{"serves", serves},
                {"parks", parks},
+               {"tells_more", tells_more},
                {"changes", changes},
                {"calls_raw", calls_raw},
                {"calls", calls},

@@ -271,6 +271,37 @@ static void parked_are_answered_each_way(void) {
   replies(1, 10, 9);
 }
 
+/* The system exceptions of the standard (CORBA 3.3 Part 2, A.5), by the names that follow LR_EX_. */
+#define EACH_EXCEPTION(X)                                                                                             \
+  X(MARSHAL) X(BAD_CONTEXT) X(NO_RESOURCES) X(BAD_OPERATION) X(OBJECT_NOT_EXIST) X(UNKNOWN) X(BAD_PARAM)              \
+  X(NO_PERMISSION) X(IMP_LIMIT) X(INTERNAL) X(TRANSIENT) X(NO_MEMORY) X(COMM_FAILURE) X(INV_OBJREF) X(INITIALIZE)     \
+  X(NO_IMPLEMENT) X(BAD_TYPECODE) X(NO_RESPONSE) X(PERSIST_STORE) X(BAD_INV_ORDER) X(FREE_MEM) X(INV_IDENT)           \
+  X(INV_FLAG) X(INTF_REPOS) X(OBJ_ADAPTER) X(DATA_CONVERSION) X(TRANSACTION_REQUIRED) X(TRANSACTION_ROLLEDBACK)       \
+  X(INVALID_TRANSACTION) X(INV_POLICY) X(CODESET_INCOMPATIBLE) X(REBIND) X(TIMEOUT) X(TRANSACTION_UNAVAILABLE)        \
+  X(TRANSACTION_MODE) X(BAD_QOS) X(INVALID_ACTIVITY) X(ACTIVITY_COMPLETED) X(ACTIVITY_REQUIRED) X(THREAD_CANCELLED)
+
+/* Each is the outcome of a request, and what another one is refused by. */
+static void each_exception_has_its_name(void) {
+  static const struct {
+    uint32_t name;
+    const char *id;
+  } all[] = {
+#define NAMED(name) {LR_EX_##name, "IDL:omg.org/CORBA/" #name ":1.0"},
+      EACH_EXCEPTION(NAMED)};
+  open_server();
+  connect(1);
+  for (uint32_t index = 0; index < sizeof all / sizeof *all; index++) {
+    make_request(index, "c", "add", 0, LR_WISH_FULL);
+    WANT(lr_server_system(&server, fed(1), all[index].name, 0, LR_COMPLETED_YES), LR_OK);
+    system_reply(&wanted, 2, index, all[index].id, LR_COMPLETED_YES);
+    CHECK(is_due(1));
+    WANT(lr_server_refuse(&server, fed(1), all[index].name, 0), LR_OK);
+    system_reply(&wanted, 2, index, all[index].id, LR_COMPLETED_NO);
+    CHECK(is_due(1));
+  }
+  WANT((int64_t)(sizeof all / sizeof *all), LR_EX_THREAD_CANCELLED + 1);
+}
+
 /* What each call answers that takes the ticket of nothing that waits or is parked. */
 static void no_ticket(uint64_t ticket) {
   WANT(answer(ticket, 1), LR_E_TICKET);
@@ -418,6 +449,27 @@ static void parked_outlive(void) {
   WANT(answer(one, 5), LR_OK);
   replies(2, 5, 5);
   WANT(lr_server_count(&server, LR_COUNT_KEPT), 0);
+}
+
+/* A CancelRequest changes nothing, neither for the one that asked nor for a repeat that joined. */
+static void parked_are_not_cancelled(void) {
+  open_server();
+  connect(2);
+  uint64_t ticket = park(1, 7, 1);
+  join(2, 8, 1);
+  for (uint64_t connection = 1; connection <= 2; connection++) {
+    begin_message(&message, 2, LR_ORDER_BIG, LR_MSG_CANCEL_REQUEST);
+    put_number(&message, 6 + connection, 4);
+    end_message(&message);
+    WANT((int64_t)fed(connection), 0);
+    WANT(lr_server_output(&server, connection, room, sizeof room), 0);
+    WANT(lr_server_is_closed(&server, connection), 0);
+  }
+  WANT(lr_server_wanted(&server, ticket), 2);
+  WANT(answer(ticket, 1), LR_OK);
+  WANT(named(), 1 << 1 | 1 << 2);
+  replies(1, 7, 1);
+  replies(2, 8, 1);
 }
 
 /* ---- what is due ---- */
@@ -779,10 +831,12 @@ static void raw_calls_are_made(void) {
 int main(void) {
   parked_are_answered_in_any_order();
   parked_are_answered_each_way();
+  each_exception_has_its_name();
   other_tickets_are_refused();
   parked_wait_for_what_waits();
   places_are_limited();
   parked_outlive();
+  parked_are_not_cancelled();
   due_is_limited();
   families_lead_many_keys();
   offers_change_while_requests_are_parked();

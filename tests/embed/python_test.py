@@ -7,6 +7,7 @@ import asyncio
 import gc
 import itertools
 import logging
+import math
 import os
 import random
 import re
@@ -19,6 +20,7 @@ import sys
 import tempfile
 import time
 import unittest
+from unittest import mock
 
 from scripts.library import VERSION, serves
 from tests import base, cases, cdr, giop, rows
@@ -32,7 +34,8 @@ if "LEMONRUDDER_LIBRARY" not in os.environ:
 sys.path.insert(0, os.path.join(ROOT, "bindings", "python"))
 
 import lemonrudder as lr  # noqa: E402
-from lemonrudder import BIG, LITTLE, Error, Signature  # noqa: E402
+from lemonrudder import BIG, LITTLE, Error, Signature, _connection, _lines, _server, _works  # noqa: E402
+from lemonrudder._connection import Connection  # noqa: E402
 from lemonrudder._library import library as native  # noqa: E402
 from lemonrudder._library import serves as serves_here  # noqa: E402
 from lemonrudder._table import FUNCTIONS  # noqa: E402
@@ -1606,7 +1609,7 @@ class Ends(Case):
                 if len(asked) == 1:
                     raise lr.Refuse("NO_RESOURCES", 7)
                 if len(asked) < 4:
-                    raise lr.Refuse("unheard of")
+                    raise lr.Refuse
                 return number
 
             server, client = await self.pair({"op": ("l", "l", function)})
@@ -1620,6 +1623,26 @@ class Ends(Case):
                 # (of TRANSIENT the client knows that it may send it again)
                 self.assertEqual(await client.call("k", "op", "l", [5], "l"), 5)
                 self.assertEqual((server.connections, len(asked)), (2, 4))
+        self.run_async(main())
+
+    def test_a_reply_has_the_results_and_no_more(self):
+        async def main():
+            def fails():
+                raise lr.UserException("IDL:X:1.0", [7, 8])
+
+            operations = {"get": ("", "ls", lambda: (5, "text")), "none": ("", "", lambda: None),
+                          "fails": ("", "", fails)}
+            server, client = await self.pair(operations, {"fails": {"IDL:X:1.0": "ll"}})
+            async with server, client:
+                for results, left in (("", 13), ("l", 9), ("lL", 5)):
+                    more = f"{left} octets more"
+                    with self.subTest(results), self.assertRaisesRegex(lr.LemonrudderError, more) as caught:
+                        await client.call("k", "get", results=results)
+                    self.assertIs(caught.exception.number, Error.VALUE)
+                with self.assertRaisesRegex(lr.LemonrudderError, "4 octets more than 'l'"):
+                    await client.call("k", "fails", raises={"IDL:X:1.0": "l"})
+                self.assertEqual(await client.call("k", "get", results="ls"), (5, "text"))
+                self.assertIsNone(await client.call("k", "none"))
         self.run_async(main())
 
     def test_many_calls_at_once(self):
@@ -1933,27 +1956,31 @@ class Waits(Case):
     run_async, pair, connected, drained = Ends.run_async, Ends.pair, Turns.connected, Turns.drained
 
     def test_many_wait_at_once(self):
-        """64 callers of an operation that sleeps a second have all been answered after 1.2 of them."""
+        """An operation of 64 callers is under way for all of them before it ends for one."""
         async def main():
+            waiting, go = [], asyncio.Event()
+
             async def slow(number):
-                await asyncio.sleep(1)
+                waiting.append(number)
+                if len(waiting) == 64:
+                    go.set()
+                await go.wait()
                 return number
 
             server, client = await self.pair({"slow": ("l", "l", slow), "get": ("", "l", lambda: 5)})
             clients = [lr.Client(client.host, client.port) for _ in range(64)]
             async with server, client:
                 await asyncio.gather(*(one.call("k", "get", results="l") for one in clients))
-                for _ in range(5):
-                    began = time.monotonic()
-                    calls = [one.call("k", "slow", "l", [number], "l") for number, one in enumerate(clients)]
-                    self.assertEqual(await asyncio.gather(*calls), list(range(64)))
-                    took = time.monotonic() - began
-                    if took < 1.2:
-                        break
-                self.assertLess(took, 1.2)
-                # (one connection has as many)
-                calls = [client.call("k", "slow", "l", [number], "l") for number in range(64)]
+                calls = [one.call("k", "slow", "l", [number], "l") for number, one in enumerate(clients)]
+                self.assertEqual(await asyncio.gather(*calls), list(range(64)))
+                # (one connection has as many, and what comes behind them is answered first)
+                waiting.clear()
+                go.clear()
+                calls = [asyncio.ensure_future(client.call("k", "slow", "l", [number], "l")) for number in range(63)]
+                await asyncio.sleep(0)
                 self.assertEqual(await client.call("k", "get", results="l"), 5)
+                self.assertEqual((len(waiting), go.is_set()), (63, False))
+                calls.append(client.call("k", "slow", "l", [63], "l"))
                 self.assertEqual(await asyncio.gather(*calls), list(range(64)))
                 stats = server.stats()
                 self.assertEqual((stats["parked_now"], stats["under_way"], stats["parked"] % 64), (0, 0, 0))
@@ -2084,7 +2111,7 @@ class Waits(Case):
     def test_timeouts(self):
         """An operation that is cut off has perhaps acted; what it says after all is dropped."""
         async def main():
-            ended = []
+            ended, go = [], asyncio.Event()
 
             async def function(how):
                 try:
@@ -2096,7 +2123,7 @@ class Waits(Case):
                     if how == "answers":
                         return 5
                     if how == "stays":
-                        await asyncio.sleep(1.5)
+                        await go.wait()
                         ended.append("late")
                         return 6
                     raise
@@ -2117,6 +2144,7 @@ class Waits(Case):
                     raised = caught.exception
                     self.assertEqual((raised.name, raised.minor, raised.completed), (name, 0, completed))
                 self.assertEqual(server.stats()["under_way"], 1)
+                go.set()
                 while server.stats()["under_way"]:
                     await asyncio.sleep(0.01)
                 self.assertEqual(ended, ["answers", "refuses", "raises", "stays", "late"])
@@ -2129,8 +2157,10 @@ class Waits(Case):
     def test_close_waits(self):
         """Goodbye is said behind what is under way, and no more is taken."""
         async def main():
+            go = asyncio.Event()
+
             async def function(number):
-                await asyncio.sleep(0.2)
+                await go.wait()
                 return number
 
             server, client = await self.pair({"op": ("l", "l", function)})
@@ -2139,9 +2169,10 @@ class Waits(Case):
                 writer.write(lr.write_request(1, "k", "op", lr.pack("l", 8)))
                 while not server.stats()["parked_now"]:
                     await asyncio.sleep(0.01)
-                closing = asyncio.ensure_future(server.close())
+                closing = asyncio.ensure_future(server.close(timeout=SECONDS))
                 await asyncio.sleep(0)
                 writer.write(lr.write_request(2, "k", "op", lr.pack("l", 9)))
+                asyncio.get_running_loop().call_later(0.1, go.set)
                 reply, close = lr.messages(await reader.read())
                 self.assertEqual((reply.request_id, reply.body.unpack("l")), (1, (8,)))
                 self.assertIs(close.type, lr.MessageType.CLOSE_CONNECTION)
@@ -2156,10 +2187,10 @@ class Waits(Case):
     def test_close_waits_without_a_limit(self):
         """What is under way is waited for, though its client is gone."""
         async def main():
-            performed = []
+            performed, go = [], asyncio.Event()
 
             async def function(number):
-                await asyncio.sleep(0.2)
+                await go.wait()
                 performed.append(number)
 
             server, client = await self.pair({"op": ("l", "", function)})
@@ -2169,9 +2200,14 @@ class Waits(Case):
                 while not server.stats()["parked_now"]:
                     await asyncio.sleep(0.01)
                 writer.transport.abort()
+                asyncio.get_running_loop().call_later(0.1, go.set)
                 await server.close(timeout=None)
                 self.assertEqual(performed, [8])
         self.run_async(main())
+
+    def test_a_refusal_has_a_name_of_the_standard(self):
+        with self.assertRaises(ValueError):
+            lr.Refuse("NO_SUCH_NAME")
 
     def test_members_of_an_exception_are_values(self):
         """One text is not taken for the letters of it."""
@@ -2348,18 +2384,61 @@ class Waits(Case):
             self.run_async(main())
 
 
-# a peer that sends the same octets without end, and reads what comes
-FLOOD = """
-import socket, sys, threading
-octets = sys.stdin.buffer.read()
-peer = socket.create_connection(("127.0.0.1", int(sys.argv[1])))
-def drop():
-    while peer.recv(65536):
+class Wire(asyncio.Transport):
+    """A transport that stands on no system: what its peer sends comes when a test says so."""
+
+    def __init__(self, server):
+        super().__init__()
+        self.written, self.is_read, self.is_over = bytearray(), True, False
+        self.connection = Connection(server)
+        self.connection.connection_made(self)
+
+    def come(self, octets):
+        """Octets are read."""
+        self.connection.get_buffer(-1)[:len(octets)] = octets
+        self.connection.buffer_updated(len(octets))
+
+    def flood(self, octets):
+        """They are there again in each round of the loop."""
+        if not self.is_over:
+            if self.is_read:
+                self.come(octets)
+            asyncio.get_running_loop().call_soon(self.flood, octets)
+
+    def write(self, data):
+        self.written += data
+
+    def pause_reading(self):
+        self.is_read = False
+
+    def resume_reading(self):
+        self.is_read = True
+
+    def set_write_buffer_limits(self, high=None, low=None):
         pass
-threading.Thread(target=drop, daemon=True).start()
-while True:
-    peer.sendall(octets)
-"""
+
+    def get_write_buffer_size(self):
+        return 0
+
+    def is_closing(self):
+        return self.is_over
+
+    def abort(self):
+        if not self.is_over:
+            self.is_over = True
+            asyncio.get_running_loop().call_soon(self.connection.connection_lost, None)
+
+    close = abort
+
+
+class Clock:
+    """A clock that goes on by ten microseconds each time that it is read."""
+
+    now = 0.0
+
+    def monotonic(self):
+        self.now += 0.00001
+        return self.now
 
 
 class Bounds(Case):
@@ -2375,46 +2454,49 @@ class Bounds(Case):
             return int(file.read().split()[1]) * os.sysconf("SC_PAGESIZE")
 
     def test_a_flood_leaves_a_calm_one(self):
-        """A calm peer's calls take at most 5 times as long beside one that floods."""
+        """While a calm peer waits for its reply, two turns pass at most of a peer that floods."""
         async def main():
-            server, client = await self.pair({"get": ("", "l", lambda: 1)})
-            server.add("s", "IDL:S:1.0", {"slow": ("", "", lambda: asyncio.sleep(0.001))})
+            gates = []
+            server, client = await self.pair({"get": ("", "l", lambda: 1), "slow": ("", "", lambda: gates[0].wait())})
 
-            async def calm():
-                # (the time of this process, whatever else the machine does)
-                times = []
-                for _ in range(40):
-                    began = time.process_time()
-                    await client.call("k", "get", results="l")
-                    times.append(time.process_time() - began)
-                return sorted(times)[20]
+            def done():
+                """How much was done for both."""
+                return sum(server.stats()[what] for what in ("asked", "settled", "invalid"))
 
-            async def flooded(key, operation):
-                """The time of a call beside a peer that sends such requests without end."""
-                requests = b"".join(lr.write_request(number, key, operation) for number in range(2000))
-                words = [sys.executable, "-c", FLOOD, str(client.port)]
-                with subprocess.Popen(words, stdin=subprocess.PIPE) as peer:
-                    peer.stdin.write(requests)
-                    peer.stdin.close()
-                    while server.connections < 2:
-                        await asyncio.sleep(0.01)
-                    await asyncio.sleep(0.2)
-                    try:
-                        return await calm()
-                    finally:
-                        peer.kill()
-                        await self.drained(server, 1)
+            async def calm(wire):
+                """What is done between a request and its reply, beside it."""
+                before = done()
+                wire.written.clear()
+                asyncio.get_running_loop().call_soon(wire.come, lr.write_request(1, "k", "get"))
+                while not wire.written:
+                    await asyncio.sleep(0)
+                return done() - before - 1
 
             async with server, client:
-                await calm()
-                for key, operation in (("k", "get"), ("s", "slow"), ("none", "get")):
-                    for _ in range(5):
-                        alone, beside = await calm(), await flooded(key, operation)
-                        if beside < 5 * alone:
-                            break
-                    with self.subTest(key):
-                        self.assertLess(beside, 5 * alone)
-        self.run_async(main())
+                wire = Wire(server)
+                for operation in ("get", "slow", "none"):
+                    request = lr.write_request(1, "k", operation)
+                    peer, most, before, gates[:] = Wire(server), 0, done(), [asyncio.Event()]
+                    peer.flood(request * (65536 // len(request)))
+                    for _ in range(20):
+                        while operation == "slow" and server.stats()["under_way"] < 64:
+                            await asyncio.sleep(0)
+                        gates.insert(0, asyncio.Event())
+                        gates.pop().set()  # (those that are under way end at once)
+                        for _ in range(8):
+                            most = max(most, await calm(wire))
+                    with self.subTest(operation):
+                        # (by this clock a turn has 10 messages, and 5 outcomes)
+                        self.assertLessEqual(most, 2 * (10 + 5 + 1))
+                        self.assertGreater(done() - before, 20 * 64)
+                    peer.abort()
+                    gates[0].set()
+                    while server.connections > 1:
+                        await asyncio.sleep(0)
+        clock = Clock()
+        with mock.patch.object(_connection, "time", clock), mock.patch.object(_works, "time", clock), \
+                mock.patch.object(_server, "_LATELY", math.inf), Records("lemonrudder"):
+            self.run_async(main())
 
     def test_memory_beside_a_peer_that_reads_nothing(self):
         """Repeats of a long reply that nobody takes cost a few of them, and not all."""
@@ -2493,7 +2575,8 @@ class Bounds(Case):
             server, client = await self.pair({"slow": ("", "", slow), "get": ("", "l", lambda: 1)}, max_parked=8)
             clients = [lr.Client(client.host, client.port, delays=(0.001, 0.01)) for _ in range(6)]
             async with server, client:
-                calls = [one.call("k", ("slow", "get")[number % 3 == 0]) for number in range(30) for one in clients]
+                calls = [one.call("k", "get", results="l") if number % 3 == 0 else one.call("k", "slow")
+                         for number in range(30) for one in clients]
                 await asyncio.gather(*calls)
                 for one in clients:
                     await one.close()
@@ -2502,11 +2585,13 @@ class Bounds(Case):
     def test_connections(self):
         """One that comes beyond the bound is dropped, and one that is silent for long is left."""
         async def main():
+            go = asyncio.Event()
+
             async def slow():
-                await asyncio.sleep(0.9)
+                await go.wait()
                 return 1
 
-            server, client = await self.pair({"slow": ("", "l", slow)}, max_connections=2, idle_timeout=0.4)
+            server, client = await self.pair({"slow": ("", "l", slow)}, max_connections=2, idle_timeout=1)
             async with server, client:
                 call = asyncio.ensure_future(client.call("k", "slow", results="l"))
                 reader, writer = await asyncio.open_connection(client.host, client.port)
@@ -2518,6 +2603,7 @@ class Bounds(Case):
                 message, = lr.messages(await reader.read())
                 self.assertIs(message.type, lr.MessageType.CLOSE_CONNECTION)
                 self.assertFalse(call.done())
+                go.set()
                 self.assertEqual(await call, 1)
                 self.assertEqual(server.stats()["turned_away"], 1)
                 for one in (writer, third):
@@ -2568,15 +2654,49 @@ class Bounds(Case):
             self.assertEqual(server.stats(), {})
         self.run_async(main())
 
+    def test_refusals_do_not_fill_the_log(self):
+        """Those of a connection for one reason have a line, and then one a second with their number."""
+        async def main():
+            def fails():
+                raise KeyError
+
+            server, client = await self.pair({"fails": ("", "", fails)})
+            none, fail = (lr.write_request(1, "k", operation) for operation in ("none", "fails"))
+            async with server, client:
+                for _ in range(2):
+                    wire = Wire(server)
+                    wire.come((none + fail) * 300)
+                    while wire.written.count(b"GIOP") < 600:
+                        await asyncio.sleep(0)
+                    server._lines._end(wire.connection)  # (a second is over)
+                    wire.come(none)
+                for number in range(20):
+                    server._lines.write(wire.connection, logging.INFO, "%d", number)
+        invalid = ("a request is refused on {} (local): there is no such object or operation, or its arguments are not "
+                   "valid")
+        raised, wanted = "'fails' raised KeyError", []
+        for one in ("connection 1", "connection 2"):
+            lines = invalid.format(one), raised
+            wanted += [*lines, *(f"{line} (299 times more)" for line in lines)]
+        wanted += [*map(str, range(14)), f"{invalid.format('connection 1')} (1 times more)",
+                   f"{invalid.format('connection 2')} (1 times more)",
+                   "other lines about connection 2 (local) are left out (6 times more)"]
+        logger = logging.getLogger("lemonrudder")
+        logger.setLevel(logging.INFO)
+        self.addCleanup(logger.setLevel, logging.NOTSET)
+        with mock.patch.object(_lines, "_SECONDS", SECONDS), Records("lemonrudder") as records:
+            self.run_async(main())
+        self.assertEqual(records, wanted)
+
 
 class Addresses(Case):
     """A client over all addresses of a reference, and where it is led."""
 
     run_async, pair = Ends.run_async, Ends.pair
 
-    async def script(self, answers):
+    async def script(self, answers, **options):
         """A server that answers one request after another as a list says, a status and a body, or None: it hangs up.
-        Its port, and the key, operation, number and body of each request that came."""
+        Its port, and the key, operation, number and body of each request that came. `options` are the listener's."""
         seen = []
 
         async def serve(reader, writer):
@@ -2593,7 +2713,7 @@ class Addresses(Case):
                     writer.write(lr.write_reply(message.request_id, said[1], status=said[0]))
             writer.close()
 
-        listener = await asyncio.start_server(serve, "127.0.0.1", 0)
+        listener = await asyncio.start_server(serve, "127.0.0.1", 0, **options)
         self.addCleanup(listener.close)
         return listener.sockets[0].getsockname()[1], seen
 
@@ -2662,7 +2782,7 @@ class Addresses(Case):
             port, seen = await self.script([self.TRANSIENT] * 1000)
             async with lr.Client("127.0.0.1", port, delays=(0.001, 0.01)) as client:
                 with self.assertRaises(lr.Expired) as caught:
-                    await client.call("k", "op", results="l", timeout=0.3)
+                    await client.call("k", "op", results="l", timeout=1)
             self.assertEqual(caught.exception.__cause__.name, "TRANSIENT")
             self.assertEqual(caught.exception.sent, len(seen))
             self.assertGreater(caught.exception.sent, 3)
@@ -2770,6 +2890,8 @@ class Tls(Case):
     """Both ends over TLS."""
 
     run_async = Ends.run_async
+    script, closed_port, reference, forward = (getattr(Addresses, name) for name in (
+        "script", "closed_port", "reference", "forward"))
 
     def contexts(self, folder):
         """Contexts of a server and of a client, which trust one certificate that both show."""
@@ -2808,6 +2930,31 @@ class Tls(Case):
         with tempfile.TemporaryDirectory() as folder:
             self.run_async(main(*self.contexts(folder)))
 
+    def test_all_addresses_and_a_forward(self):
+        """A call keeps its number over addresses at which nobody listens or that hang up, and over a forward."""
+        async def main(served, called):
+            def add(number):
+                performed.append((number, lr.current().retention_id))
+                return sum(each for each, _ in performed)
+
+            performed, server = [], lr.Server()
+            server.add("there", "IDL:K:1.0", {"add": ("l", "l", add)})
+            led = self.forward(self.closed_port(), await server.listen(ssl=served), key="there")
+            first, hung_up = await self.script([None, None], ssl=served)
+            second, forwarded = await self.script([None, led], ssl=served)
+            reference = self.reference(self.closed_port(), first, second)
+            tls = {"ssl": called, "server_hostname": "localhost", "delays": (0.001, 0.01)}
+            async with server, lr.Client.of(reference, **tls) as client:
+                sums = [await client.call(client.key, "add", "l", [number], "l") for number in (7, 8)]
+            self.assertEqual(sums, [7, 15])
+            self.assertEqual(performed, [(7, 1), (8, 2)])
+            seen = hung_up + forwarded
+            self.assertEqual({one[:3] for one in seen}, {(b"k", "add", 1)})
+            self.assertGreater(len(hung_up), 0)
+            self.assertEqual(len(forwarded), 2)
+        with tempfile.TemporaryDirectory() as folder:
+            self.run_async(main(*self.contexts(folder)))
+
 
 class Bank(Case):
     """The bank of the examples, whose clients lose their connections."""
@@ -2838,6 +2985,25 @@ class Bank(Case):
                 self.assertEqual(bank.wait(SECONDS), 0)
             finally:
                 bank.kill()
+
+    def test_it_is_called_from_a_shell(self):
+        """Fifty clients at once; texts, numbers and what is raised."""
+        with subprocess.Popen(example("bank.py", "0", "0.1"), stdout=subprocess.PIPE, text=True) as bank:
+            try:
+                reference = bank.stdout.readline().strip()
+                unknown = repr(lr.SystemException("BAD_OPERATION", 0, lr.Completed.NO))
+                for words, wanted, status in (
+                        (["-n", "50", reference, "deposit", "sq", "q", "alice", "5"], range(5, 251, 5), 0),
+                        ([reference, "balance", "s", "q", "alice"], [250], 0),
+                        ([reference, "deposit", "sq", "q", "alice", "-251"], [f"UserException('{OVERDRAWN}', ())"], 1),
+                        ([reference, "none", "", ""], [unknown], 1)):
+                    with self.subTest(words[-4:]):
+                        ran = subprocess.run(example("call.py", *words), capture_output=True, text=True,
+                                             timeout=SECONDS)
+                        self.assertEqual((sorted(ran.stdout.split("\n")[:-1]), ran.stderr, ran.returncode),
+                                         (sorted(map(str, wanted)), "", status))
+            finally:
+                bank.terminate()
 
     async def play(self, reference):
         profile, dice = reference.profiles[0], Dice(SEED)

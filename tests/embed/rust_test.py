@@ -14,7 +14,9 @@ import unittest
 
 from scripts import library
 from tests import programs
-from tests.embedding import BANKS, of_functions
+from tests.embedding import (
+    BANKS, of_functions, slow_bank_says_goodbye, slow_deposits_act_once, slow_deposits_are_answered_in_any_order,
+    slow_deposits_are_made_at_once)
 
 CRATE = os.path.join(programs.ROOT, "bindings", "rust")
 REGISTRY = "/usr/share/cargo/registry"
@@ -140,8 +142,13 @@ class Crate(unittest.TestCase):
         self.assertEqual(cargo(self.target, self.lib, "fmt", "--package", "lemonrudder-sys", "--check"), (0, ""))
 
 
+# what does not tell how many are made at once, and which
+SLOW_BANKS = [slow_deposits_are_made_at_once, slow_deposits_act_once, slow_deposits_are_answered_in_any_order,
+              slow_bank_says_goodbye]
+
+
 @programs.needs("cargo")
-@of_functions(BANKS)
+@of_functions([*BANKS, *SLOW_BANKS])
 class BankTokio(unittest.TestCase):
     """The bank over tokio."""
 

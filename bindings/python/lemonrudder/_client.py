@@ -7,7 +7,7 @@ import secrets
 from dataclasses import dataclass
 from typing import Any, Dict, List, Mapping, Optional, Sequence, Tuple, Union
 
-from ._cdr import BIG, pack, parsed, result_of, type_codes
+from ._cdr import BIG, Reader, pack, parsed, result_of, type_codes
 from ._library import LIMIT, PARTIALS, LemonrudderError, Octets, Text, lent, now, octets_of
 from ._messages import Body, listed
 from ._outcomes import Expired, ForwardRequest, NeedsAddressing, SystemException, UserException
@@ -114,9 +114,9 @@ class Client:
 
         Raises UserException, SystemException, ForwardRequest or NeedsAddressing, as the server answers; Expired, whose
         cause is what stood in the way last; ConnectionError (the client is closed); LemonrudderError (CALLS: all
-        numbers were given; LONG, TEXT; SHORT, VALUE: the reply does not hold the results); FormatError, ValueError or
-        TypeError (the values are not of their types). A call that is cancelled is cancelled at the server too, which
-        may have performed it.
+        numbers were given; LONG, TEXT; SHORT, VALUE: the reply does not hold the results, or more, as where none were
+        named); FormatError, ValueError or TypeError (the values are not of their types). A call that is cancelled is
+        cancelled at the server too, which may have performed it.
         """
         return await self._typed(None, key, operation, arguments, values, results, raises, timeout, expiration)
 
@@ -186,7 +186,7 @@ class Client:
         made = Call(octets_of(operation), _expiration(timeout, expiration), None, parts)
         how, body = await self._made(number, octets_of(key), made)
         if how == Ended.RETURNED:
-            return result_of(body.unpack(results))
+            return result_of(_whole(body.reader(), results))
         raise _raised(how, body, raises)
 
     async def _made(self, number: Optional[int], key: bytes, made: Call) -> Tuple[int, Body]:
@@ -290,13 +290,22 @@ def _expiration(timeout: float, expiration: Optional[int]) -> int:
     return now() + round(min(max(timeout, 0.0), 1e11) * 10**7) if expiration is None else expiration
 
 
+def _whole(reader: Reader, format: str) -> Tuple[Any, ...]:
+    """All values that are left, which are those of the types of a format."""
+    values = reader.read(format)
+    left = len(reader.octets) - reader.next
+    if left:
+        raise LemonrudderError(Error.VALUE, f"the reply has {left} octets more than {format!r}")
+    return values
+
+
 def _raised(how: int, body: Body, raises: Mapping[str, str]) -> Exception:
     """What a call raises that has ended in another way than by returning."""
     if how == Ended.RAISED:
         reader = body.reader()
         id, = reader.read("s")
         if id in raises:
-            return UserException(id, reader.read(raises[id]))
+            return UserException(id, _whole(reader, raises[id]))
         return UserException(id, (), Body(body.octets[reader.next:], body.order, body.at + reader.next))
     if how == Ended.SYSTEM:
         id, minor, completed = body.unpack("sLL")

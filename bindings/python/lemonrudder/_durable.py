@@ -3,6 +3,7 @@ from __future__ import annotations
 
 import asyncio
 import inspect
+import logging
 from contextvars import ContextVar
 from typing import TYPE_CHECKING, Any, Optional
 
@@ -153,15 +154,20 @@ class Durable:
             _ATTEMPT.reset(token)
         return await self._keep(asked, self._read(asked, returned))
 
+    def _write(self, asked: Asked, text: str, *words: object, error: BaseException) -> None:
+        """Writes a line about the connection of a request."""
+        about = self._server._connections.get(asked.connection, asked.connection)
+        self._server._lines.write(about, logging.ERROR, text, *words, error=error)
+
     def _read(self, asked: Asked, ended: Any) -> Outcome:
         """The outcome that a servant's end is which it did not store."""
         if isinstance(ended, Exception) and not isinstance(ended, (UserException, SystemException)):
-            self._server.log.error("%a raised an exception", asked.operation, exc_info=ended)
+            self._write(asked, "%a raised %s", asked.operation, type(ended).__name__, error=ended)
             return unknown("UNKNOWN")
         try:
             return self.outcome(asked, ended)
         except Exception as error:
-            self._server.log.error("no outcome of %a", asked.operation, exc_info=error)
+            self._write(asked, "no outcome of %a", asked.operation, error=error)
             return unknown("UNKNOWN" if isinstance(ended, Exception) else "INTERNAL")
 
     async def _keep(self, asked: Asked, outcome: Outcome) -> Outcome:
@@ -205,7 +211,7 @@ class Durable:
     def outcome(self, asked: Asked, ended: Any) -> Outcome:
         """What a servant returns or raises as an outcome. Raises ValueError, TypeError, LemonrudderError (OUTCOME)."""
         if isinstance(ended, SystemException):
-            return system_outcome(known_name(ended.name, "UNKNOWN"), ended.minor, ended.completed)
+            return system_outcome(known_name(ended.name), ended.minor, ended.completed)
         signature = self._server._offer.performer(asked.key, asked.operation).signature
         if isinstance(ended, UserException):
             if signature is None or ended.id not in signature.raises:

@@ -51,10 +51,12 @@ class Refuse(Exception):
     """Raised by a servant that refuses a request for now and has done nothing: the answer is a system exception with
     COMPLETED_NO, nothing is kept, and it is asked again when the request is sent again. The connection stays.
 
-    name: a name of SystemName; a server answers any other as TRANSIENT. minor: its minor code.
+    name: a name of SystemName. minor: its minor code. Raises ValueError: there is no such name.
     """
 
     def __init__(self, name: str = "TRANSIENT", minor: int = 0) -> None:
+        if name not in SystemName.__members__:
+            raise ValueError(f"no name of SystemName: {name!r}")
         self.name, self.minor = name, minor
         super().__init__(self.name, self.minor)
 
@@ -94,9 +96,9 @@ def system_outcome(name: Union[str, int], minor: int, completed: int) -> Outcome
     return Outcome(ReplyStatus.SYSTEM_EXCEPTION, BIG, pack("sLe3", id, minor, completed))
 
 
-def known_name(name: str, other: str) -> str:
-    """The name of a system exception, or another one where a server does not have it."""
-    return name if name in SystemName.__members__ else other
+def known_name(name: str) -> str:
+    """The name of a system exception; UNKNOWN where a server does not have it."""
+    return name if name in SystemName.__members__ else "UNKNOWN"
 
 
 def system_number(name: Union[str, int]) -> int:

@@ -10,11 +10,12 @@ from ._connection import PEER_ENDED, Connection
 from ._durable import Durable
 from ._engine import Asked, Catalogue, Engine
 from ._library import LIMIT, PARTIALS, LemonrudderError, Text, octets_of
+from ._lines import ENDED, REFUSED, Lines
 from ._messages import Body
 from ._references import Ior
 from ._servants import Judged, Offer, Operation, Performer, described
 from ._store import Store
-from ._table import Counted, Error, Why
+from ._table import Error, Why
 from ._works import GRACE, Works
 
 # how long a turn lasts, in seconds: after that no further message of a connection is taken, nor outcome told. The first
@@ -22,27 +23,8 @@ from ._works import GRACE, Works
 _TURN, _LONG_TURN, _LATELY = 0.0001, 0.001, 0.1
 # how often, in seconds, idle connections and outcomes that expired are looked for at least
 _SWEEP = 10.0
-# what a request is refused for by a server itself
-_REFUSED = {
-    Counted.EXPIRED: "it is past its expiration",
-    Counted.MALFORMED: "its FT_REQUEST is not valid",
-    Counted.INVALID: "there is no such object or operation, or its arguments are not valid",
-    Counted.LOG_FULL: "as many outcomes are kept as may be (capacity)",
-    Counted.SHARE_FULL: "as many outcomes of its client are kept as may be (share)",
-    Counted.DROPPED: "memory is short",
-}
-# why a connection has ended where its stream has no fault
-_ENDED = {
-    Why.OPEN: "it is lost",
-    Why.DIRECTION: "a message came that only a server sends",
-    Why.GOODBYE: "its peer said goodbye",
-    Why.ERROR: "its peer sent MessageError",
-    Why.FAREWELL: "goodbye was said",
-    Why.GIVEN_UP: "a request that came on it was given up",
-    Why.MEMORY: "memory is short",
-}
-# how it ends as it should
-_USUAL = (PEER_ENDED, _ENDED[Why.GOODBYE], _ENDED[Why.FAREWELL], "the server closes")
+# how a connection ends as it should
+_USUAL = (PEER_ENDED, ENDED[Why.GOODBYE], ENDED[Why.FAREWELL], "the server closes")
 
 
 class Server:
@@ -85,8 +67,9 @@ class Server:
     While the store can't be used, requests with FT_REQUEST are answered TRANSIENT. purge_every: the seconds after which
     outcomes that expired are taken out, again and again; None: never.
 
-    The logger `lemonrudder` has a line for each request that is refused and each connection that ends, and why: at
-    DEBUG where its peer or the server ended it.
+    The logger `lemonrudder` has a line for each connection that ends, and why: at DEBUG where its peer or the server
+    ended it. Of requests that are refused it has the first one of a connection and reason, and each second how many
+    more there were.
     """
 
     def __init__(self, limit: int = LIMIT, partials: int = PARTIALS, capacity: int = 65536,
@@ -99,6 +82,7 @@ class Server:
         self.max_connections, self.timeout, self.idle_timeout = max_connections, timeout, idle_timeout
         self.write_timeout = write_timeout
         self.log = logging.getLogger("lemonrudder")
+        self._lines = Lines(self.log)
         self._terms = (limit, partials, capacity, share)
         self._limits = {"max_parked": max_parked, "max_parked_of": max_parked_of, "max_joined": max_joined,
                         "max_due": max_due, "max_client_id": max_client_id}
@@ -109,7 +93,7 @@ class Server:
         self._durable = None if store is None else Durable(self, store, purge_every)
         # who waits for a place, in order
         self._waiting: Dict[Connection, None] = {}
-        self._refused = dict.fromkeys(_REFUSED, 0)
+        self._refused = dict.fromkeys(REFUSED, 0)
         self._last = self._turned_away = 0
         # who was heard last, and since when it was always that one
         self._heard: Optional[Connection] = None
@@ -296,19 +280,22 @@ class Server:
     def _enter(self, connection: Connection) -> None:
         """Takes a new connection, or drops it."""
         if self._closing is not None or len(self._connections) >= self.max_connections:
-            self._turned_away += 1
-            self.log.warning("%s is turned away: there are %d", connection, len(self._connections))
-            connection.transport.abort()
+            self._turn_away(connection, f"there are {len(self._connections)}")
             return
         self._last += 1
         try:
             self._engine.connect(self._last)
         except LemonrudderError as error:
-            self.log.warning("%s is turned away: %s", connection, error)
-            connection.transport.abort()
+            self._turn_away(connection, error)
             return
         connection.number = self._last
         self._connections[self._last] = connection
+
+    def _turn_away(self, connection: Connection, why: object) -> None:
+        """Drops a new connection."""
+        self._turned_away += 1
+        self._lines.write("new connections", logging.WARNING, "%s is turned away: %s", connection, why)
+        connection.transport.abort()
 
     def _leave(self, connection: Connection) -> None:
         """A connection is gone."""
@@ -316,7 +303,7 @@ class Server:
         if self._connections.pop(connection.number, None) is None or self.is_closed:
             return
         why = self._engine.why(connection.number)
-        text = _ENDED.get(why) or f"its stream has a fault ({why.name})"
+        text = ENDED.get(why) or f"its stream has a fault ({why.name})"
         if why in (Why.OPEN, Why.FAREWELL):
             text = connection.reason or text
         self.log.log(logging.DEBUG if text in _USUAL else logging.INFO, "%s ended: %s", connection, text)
@@ -334,14 +321,12 @@ class Server:
         return _TURN if self._loop.time() - self._heard_at < _LATELY else _LONG_TURN
 
     def _note(self, connection: Connection) -> None:
-        """Writes a line for each request that was refused since this was called."""
-        for what, before in self._refused.items():
+        """Tells of each request that was refused since this was called."""
+        for what, (level, why) in REFUSED.items():
             count = self._engine.count(what)
-            if count != before:
+            if count != self._refused[what]:
                 self._refused[what] = count
-                is_full = what in (Counted.LOG_FULL, Counted.SHARE_FULL, Counted.DROPPED)
-                self.log.log(logging.WARNING if is_full else logging.INFO, "a request is refused on %s: %s",
-                             connection, _REFUSED[what])
+                self._lines.write(connection, level, "a request is refused on %s: %s", connection, why)
 
     def _sweep(self) -> None:
         """Forgets what has expired, and says goodbye where nothing was said for long."""
@@ -421,6 +406,7 @@ class Server:
         self._works.cancel()
         if self._durable is not None:
             self._durable.end()
+        self._lines.flush()
         self._trial.close()
         if self._engine is not None:
             self._engine.close()

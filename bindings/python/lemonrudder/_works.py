@@ -3,6 +3,7 @@ from __future__ import annotations
 
 import asyncio
 import inspect
+import logging
 import math
 import time
 from collections import OrderedDict, deque
@@ -64,9 +65,9 @@ class Works:
             judged = self._server._judged(asked)
             asked, performer = judged.asked, judged.performer
             current = self._current(asked, connection)
-        except (LemonrudderError, KeyError):
+        except (LemonrudderError, KeyError) as error:
             # (memory is short, as when a part is read: nothing was done)
-            self._server.log.exception("a request is refused on %s", connection)
+            self._server._lines.write(connection, logging.ERROR, "a request is refused on %s", connection, error=error)
             engine.refuse("NO_RESOURCES")
             return True
         token = CURRENT.set(current)
@@ -140,7 +141,7 @@ class Works:
         asked, performer = judged.asked, judged.performer
         why = None
         if len(self.works) >= self._most:
-            why = "as many are under way as may be (max_parked)"
+            why = f"{self._most} operations are under way already (max_parked)"
         else:
             try:
                 self._server._engine.park()
@@ -149,7 +150,8 @@ class Works:
                 why = error.text if error.number != Error.IDLE else None
         coroutine = returned if inspect.iscoroutine(returned) else None
         if why is not None:
-            self._server.log.warning("%a is refused on %s: %s", asked.operation, connection, why)
+            self._server._lines.write(connection, logging.WARNING, "%a is refused on %s: %s", asked.operation,
+                                      connection, why)
             if coroutine is not None:
                 coroutine.close()
                 self._refuse(asked)
@@ -174,7 +176,7 @@ class Works:
 
     def _settle_some(self) -> None:
         """Answers requests whose tasks have ended for a turn, of one connection after another."""
-        until = time.monotonic() + self._server._turn()
+        until = time.monotonic() + self._server._turn() / 2
         try:
             while self._done_of:
                 connection, works = next(iter(self._done_of.items()))
@@ -201,7 +203,8 @@ class Works:
         if self._server.is_closed:
             return
         if work.is_answered:
-            self._server.log.info("%a ended too late: what came of it is dropped", work.asked.operation)
+            self._server._lines.write(work.connection, logging.INFO, "%a ended too late: what came of it is dropped",
+                                      work.asked.operation)
         elif task.cancelled():
             self._cut_off(work)
         elif raised is not None:
@@ -222,13 +225,13 @@ class Works:
 
     def _cut_off(self, work: _Work) -> None:
         """Answers the request of an operation that was cancelled."""
-        operation = work.asked.operation
+        write, operation = partial(self._server._lines.write, work.connection), work.asked.operation
         if not work.had_begun:
-            self._server.log.info("%a is refused: it was not begun", operation)
+            write(logging.INFO, "%a is refused: it was not begun", operation)
             self._refuse(work.asked)
         else:
             name = work.cut or "UNKNOWN"
-            self._server.log.warning("%a was cancelled: it is answered %s, COMPLETED_MAYBE", operation, name)
+            write(logging.WARNING, "%a was cancelled: it is answered %s, COMPLETED_MAYBE", operation, name)
             self._answer(work.asked, "UNKNOWN", partial(self._doubt, work.asked), name)
 
     def _abandon(self, work: _Work) -> None:
@@ -241,9 +244,10 @@ class Works:
     def _raise(self, asked: Asked, raised: BaseException, connection: Connection) -> None:
         """Answers by what a function raised."""
         engine, answer = self._server._engine, partial(self._answer, asked, "UNKNOWN")
+        write = partial(self._server._lines.write, connection)
         if isinstance(raised, (Refuse, GiveUp)):
-            name = known_name(raised.name if isinstance(raised, Refuse) else "TRANSIENT", "TRANSIENT")
-            self._server.log.info("%a is refused on %s: %s", asked.operation, connection, name)
+            name = raised.name if isinstance(raised, Refuse) else "TRANSIENT"
+            write(logging.INFO, "%a is refused on %s: %s", asked.operation, connection, name)
             if isinstance(raised, GiveUp) and self._waits(asked.ticket):
                 self._contexts.pop(asked.ticket, None)
                 engine.give_up()
@@ -254,9 +258,9 @@ class Works:
         elif isinstance(raised, UserException):
             answer(engine.raise_user, raised.id, *raised.values)
         elif isinstance(raised, SystemException):
-            answer(engine.raise_system, known_name(raised.name, "UNKNOWN"), raised.minor, raised.completed)
+            answer(engine.raise_system, known_name(raised.name), raised.minor, raised.completed)
         else:
-            self._server.log.error("%a raised an exception", asked.operation, exc_info=raised)
+            write(logging.ERROR, "%a raised %s", asked.operation, type(raised).__name__, error=raised)
             self._fail(asked, "UNKNOWN")
 
     def _return(self, asked: Asked, returned: Any) -> None:
@@ -287,7 +291,8 @@ class Works:
         except BaseException as error:
             if getattr(error, "number", None) == Error.LOST:
                 raise
-            self._server.log.error("no outcome of %a", asked.operation, exc_info=error)
+            about = self._server._connections.get(asked.connection, asked.connection)
+            self._server._lines.write(about, logging.ERROR, "no outcome of %a", asked.operation, error=error)
             self._fail(asked, name)
             if not isinstance(error, Exception):
                 raise

@@ -699,6 +699,8 @@ impl Request<'_> {
     }
 
     /// Its service contexts, in order.
+    ///
+    /// To read all takes the square of their count, which a peer may make large: take some.
     pub fn contexts(&mut self) -> Contexts<'_> {
         Contexts::of(&mut self.server.slot, self.said.contexts, sys::lr_server_context)
     }

@@ -44,6 +44,22 @@ fn values_are_written_and_read() -> Result<(), Error> {
 }
 
 #[test]
+fn floats_are_by_their_octets() -> Result<(), Error> {
+    const SOME: &[u8] = b"\x07\0\0\0\xc2\xed\x40\0\x3f\xf8\0\0\0\0\0\0\x7f\xf8\0\0\0\0\0\x07";
+    let none = f64::from_bits(0x7ff8_0000_0000_0007);
+    let mut writer = Writer::new(Order::Big);
+    writer.octet(7)?.float(-118.625)?.double(1.5)?.double(none)?;
+    assert_eq!(writer.as_octets(), SOME);
+
+    let mut reader = Reader::new(SOME, Order::Big);
+    let bits = (reader.octet()?, reader.float()?.to_bits(), reader.double()?.to_bits());
+    assert_eq!(bits, (7, 0xc2ed_4000, 0x3ff8_0000_0000_0000));
+    assert_eq!(reader.double()?.to_bits(), none.to_bits());
+    assert_eq!((reader.float(), reader.double()), (Err(Error::Short), Err(Error::Short)));
+    Ok(())
+}
+
+#[test]
 fn a_read_that_fails_moves_nothing() -> Result<(), Error> {
     let mut reader = Reader::new(b"\x02\0\0", Order::Big);
     assert_eq!(reader.boolean(), Err(Error::Value));

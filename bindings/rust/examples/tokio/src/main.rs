@@ -1,8 +1,9 @@
-//! A bank for many clients at once, over tokio: `tokio-bank ADDRESS PORT`, for `examples/bank.idl`.
+//! A bank for many clients at once, over tokio: `tokio-bank ADDRESS PORT [MILLISECONDS]`, for
+//! `examples/bank.idl`.
 //!
 //! It prints its reference, and serves until SIGTERM; port 0 is any that is free. A deposit takes
-//! its time: it is parked, and others are served meanwhile. One with FT_REQUEST that is sent again,
-//! on any connection, acts once.
+//! so many milliseconds, or 5: it is parked, and others are served meanwhile. One with FT_REQUEST
+//! that is sent again, on any connection, acts once.
 
 use lemonrudder::{cdr::Writer, *};
 use std::sync::{Arc, Mutex};
@@ -10,26 +11,29 @@ use std::{collections::HashMap, env, io, net::IpAddr};
 use tokio::io::{copy, sink, AsyncReadExt, AsyncWriteExt};
 use tokio::net::{TcpListener, TcpStream};
 use tokio::signal::unix::{signal, SignalKind};
-use tokio::time::{sleep, timeout, Duration};
+use tokio::time::{interval, sleep, timeout, Duration};
 use tokio::{select, spawn, sync::watch, sync::Notify, task::JoinSet};
 
+const USAGE: &str = "usage: tokio-bank ADDRESS PORT [MILLISECONDS]";
 const TYPE: &str = "IDL:Bank:1.0";
 const OVERDRAWN: (&str, &[Type]) = ("IDL:Bank/Overdrawn:1.0", &[Type::LongLong]);
 const BALANCE: Signature = Signature::new(&[Type::String], &[Type::LongLong]);
 const DEPOSIT: Signature =
     Signature { arguments: &[Type::String, Type::LongLong], raises: &[OVERDRAWN], ..BALANCE };
-/// What a deposit takes.
-const SLOW: Duration = Duration::from_millis(5);
 /// How long a peer may be silent, or take nothing of what is due to it.
 const IDLE: Duration = Duration::from_secs(600);
 /// What a peer has to close at the end of its stream; and a pause where nobody can be accepted.
 const LINGER: Duration = Duration::from_secs(2);
+/// What is under way has to end once the bank is to stop.
+const DRAIN: Duration = Duration::from_secs(30);
 
 type Shared = Arc<Mutex<Bank>>;
 
-/// The engine, the accounts, and who is told that octets are due on a connection.
+/// The engine, what a deposit takes, the accounts, and who is told that octets are due on a
+/// connection.
 struct Bank {
     server: Server,
+    slow: Duration,
     accounts: HashMap<Vec<u8>, i64>,
     peers: HashMap<u64, Arc<Notify>>,
 }
@@ -56,7 +60,7 @@ struct Attended {
 }
 
 impl Bank {
-    fn open() -> Result<Bank, Error> {
+    fn open(slow: Duration) -> Result<Bank, Error> {
         let mut catalogue = Catalogue::open()?;
         catalogue.object("bank")?;
         catalogue.repository_ids("bank", &[TYPE])?;
@@ -64,7 +68,7 @@ impl Bank {
         catalogue.operation("bank", "balance", &BALANCE)?;
         let settings = Settings::default().share(256).due(65536);
         let server = Server::open(catalogue, &settings)?;
-        Ok(Bank { server, accounts: HashMap::new(), peers: HashMap::new() })
+        Ok(Bank { server, slow, accounts: HashMap::new(), peers: HashMap::new() })
     }
 
     fn balance(&self, account: &[u8]) -> i64 {
@@ -87,7 +91,7 @@ impl Bank {
         };
         self.server.give_up(); // (for want of memory a request may wait still)
         for deposit in deposits {
-            spawn(settle(bank.clone(), deposit));
+            spawn(settle(bank.clone(), deposit, self.slow));
         }
         let due = self.server.take_output(connection);
         let is_over = done.is_err() || self.server.is_closed(connection);
@@ -133,9 +137,9 @@ fn perform(
 }
 
 /// Performs a deposit after a while, once there is memory, and tells those to whom octets are due.
-async fn settle(bank: Shared, deposit: Deposit) {
+async fn settle(bank: Shared, deposit: Deposit, slow: Duration) {
     loop {
-        sleep(SLOW).await;
+        sleep(slow).await;
         let mut bank = bank.lock().unwrap();
         let is_done = !matches!(bank.perform(&deposit), Err(Error::Memory));
         while let Some(connection) = bank.server.next_due() {
@@ -196,18 +200,29 @@ async fn talk(
 #[tokio::main(flavor = "current_thread")]
 async fn main() -> Result<(), Box<dyn std::error::Error>> {
     let words: Vec<String> = env::args().skip(1).collect();
-    let [address, port] = &words[..] else { return Err("usage: tokio-bank ADDRESS PORT".into()) };
+    let [address, port, slow @ ..] = &words[..] else { return Err(USAGE.into()) };
+    let slow = match slow {
+        [] => 5,
+        [one] => one.parse()?,
+        _ => return Err(USAGE.into()),
+    };
     let listener = TcpListener::bind((address.parse::<IpAddr>()?, port.parse()?)).await?;
     let mut terminated = signal(SignalKind::terminate())?;
-    let bank = Arc::new(Mutex::new(Bank::open()?));
+    let bank = Arc::new(Mutex::new(Bank::open(Duration::from_millis(slow))?));
     let port = listener.local_addr()?.port();
     println!("{}", Ior::iiop(TYPE, Version::V12, address, port, b"bank")?.to_text()?);
 
     let (stop, stopped) = watch::channel(());
     let (mut peers, mut connection) = (JoinSet::new(), 0);
+    let mut seconds = interval(Duration::from_secs(1));
     loop {
         let mut stream = select! {
             _ = terminated.recv() => break,
+            _ = seconds.tick() => {
+                // (what expired is forgotten, though nobody asks)
+                bank.lock().unwrap().server.tick(Moment::now())?;
+                continue;
+            }
             Some(_) = peers.join_next() => continue,
             accepted = listener.accept() => match accepted {
                 Ok((stream, _)) => stream,
@@ -225,8 +240,9 @@ async fn main() -> Result<(), Box<dyn std::error::Error>> {
             });
         }
     }
+    drop(listener);
     stop.send(())?;
     // who takes nothing is left
-    _ = timeout(LINGER, async { while peers.join_next().await.is_some() {} }).await;
+    _ = timeout(DRAIN, async { while peers.join_next().await.is_some() {} }).await;
     Ok(())
 }
