@@ -121,7 +121,7 @@ static bool take(struct outcome *outcome, uint32_t status, const unsigned char *
 static bool take_balance(struct outcome *outcome, bool is_overdrawn, int64_t balance) {
   unsigned char octets[64];
   lr_place out = {.order = LR_ORDER_BIG};
-  if (is_overdrawn) lr_put_string(octets, sizeof octets, &out, OVERDRAWN, SIZE(OVERDRAWN));
+  if (is_overdrawn) lr_put_string(octets, sizeof octets, &out, LR_TEXT(OVERDRAWN));
   lr_put_longlong(octets, sizeof octets, &out, balance);
   return take(outcome, is_overdrawn ? LR_REPLY_USER_EXCEPTION : LR_REPLY_NO_EXCEPTION, octets, out.next);
 }
@@ -259,10 +259,9 @@ static void *work(void *nothing) {
 
 /* Answers TRANSIENT, COMPLETED_MAYBE: it is not known whether the store has an outcome, or will have it. */
 static int64_t answer_unknown(lr_server *server, uint64_t ticket) {
-  static const char id[] = "IDL:omg.org/CORBA/TRANSIENT:1.0";
   unsigned char octets[64];
   lr_place out = {.order = LR_ORDER_BIG};
-  lr_put_string(octets, sizeof octets, &out, id, SIZE(id));
+  lr_put_string(octets, sizeof octets, &out, LR_TEXT("IDL:omg.org/CORBA/TRANSIENT:1.0"));
   lr_put_ulong(octets, sizeof octets, &out, 0);
   lr_put_ulong(octets, sizeof octets, &out, LR_COMPLETED_MAYBE);
   return lr_server_answer_unkept(server, ticket, LR_REPLY_SYSTEM_EXCEPTION, LR_ORDER_BIG, octets, out.next);
@@ -311,7 +310,7 @@ static int judge(lr_server *server, const lr_request *asked, struct job *job) {
   size_t size = asked->body_size;
   lr_place in = {.at = asked->body_at, .order = asked->body_order};
   if (lr_server_part(server, asked->ticket, LR_PART_KEY, key, sizeof key) != SIZE(KEY)) return LR_EX_OBJECT_NOT_EXIST;
-  if (memcmp(key, KEY, SIZE(KEY)) != 0) return LR_EX_OBJECT_NOT_EXIST;
+  if (memcmp(key, LR_TEXT(KEY)) != 0) return LR_EX_OBJECT_NOT_EXIST;
   int64_t length = lr_server_part(server, asked->ticket, LR_PART_OPERATION, operation, sizeof operation);
   if (length < 0 || length >= (int64_t)sizeof operation) return LR_EX_BAD_OPERATION;
   operation[length] = 0;
@@ -321,8 +320,8 @@ static int judge(lr_server *server, const lr_request *asked, struct job *job) {
     job->operation = IS;
     if (operation[1] == 'n') return NONE;
     if (lr_get_string(body, size, &in, &start, &count) != LR_OK) return LR_EX_MARSHAL;
-    job->amount = (count == SIZE(TYPE) && memcmp(body + start, TYPE, SIZE(TYPE)) == 0) ||
-                  (count == SIZE(OBJECT) && memcmp(body + start, OBJECT, SIZE(OBJECT)) == 0);
+    job->amount = (count == SIZE(TYPE) && memcmp(body + start, LR_TEXT(TYPE)) == 0) ||
+                  (count == SIZE(OBJECT) && memcmp(body + start, LR_TEXT(OBJECT)) == 0);
     return NONE;
   }
   job->operation = strcmp(operation, "deposit") == 0 ? DEPOSIT : BALANCE;
@@ -384,7 +383,7 @@ int main(int count, char **words) {
   is_open = store->open(store_name);
   if (!is_open) complain();
   int64_t done = open_server(&server);
-  if (done == LR_OK) done = loop_print(TYPE, SIZE(TYPE), 2, words[2], port, KEY, SIZE(KEY));
+  if (done == LR_OK) done = loop_print(LR_TEXT(TYPE), 2, words[2], port, LR_TEXT(KEY));
   if (done < 0) return fprintf(stderr, "bank_durable: %s\n", lr_strerror(done)), 1;
   if (pthread_create(&worker, NULL, work, NULL) != 0) return perror("bank_durable"), 1;
   int served = loop_serve(&server, listener, perform_asked, settle);
