@@ -196,6 +196,40 @@ class OverAModel(unittest.IsolatedAsyncioTestCase):
         await self.answers(55, 1, "deposit", "a", 7, performed=1)
         self.assertEqual(self.model.accounts, {})
 
+    async def test_a_servant_that_goes_on(self):
+        """It hides that the store refused it: what the store has is answered all the same."""
+        async def hide(account):
+            async with self.model.transaction() as db:
+                with contextlib.suppress(lr.Kept):
+                    await lr.current().store(db, 1)
+            return 2
+
+        outcome = lr.Outcome(lr.ReplyStatus.NO_EXCEPTION, lr.BIG, (55).to_bytes(8, "big"))
+        self.model.between = lambda: self.model.outcomes.setdefault((b"client", 1), outcome)
+        self.server.add(b"hides", (), {"hide": ("s", "q", hide)})
+        self.model.commits = ["fails"]
+        await self.answers(55, 1, "hide", "a", key=b"hides")
+        self.model.outcomes.clear()
+        await self.answers(55, 1, "hide", "a", key=b"hides")
+
+    async def test_more_than_may_be_parked(self):
+        """Whether the store has them is not known then; and no capacity stands in their way."""
+        async with lr.Server(capacity=1, share=1, max_parked=2, store=self.model) as server:
+            some = asyncio.Event()
+
+            async def wait(account):
+                await some.wait()
+                return 5
+
+            server.add(KEY, (), {"wait": ("s", "q", wait)})
+            self.port = await server.listen()
+            asking = [asyncio.ensure_future(self.ask(1, "wait", "a", client_id=f"{number}")) for number in range(2)]
+            while server.stats()["under_way"] < 2:
+                await asyncio.sleep(0)
+            self.assertEqual(await self.ask(1, "wait", "a", client_id="more"), ("TRANSIENT", 0, MAYBE))
+            some.set()
+            self.assertEqual(await asyncio.gather(*asking), [5, 5])
+
     async def test_what_was_forgotten(self):
         """It is refused, also where that shows only when it is performed."""
         far = 1 << 62

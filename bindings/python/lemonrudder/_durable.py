@@ -26,9 +26,10 @@ _LONGEST = 1048576
 
 
 class _Attempt:
-    """What a servant stored for its request, if it did."""
+    """What a servant stored for its request, if it did; or that the store refused it."""
 
     outcome: Optional[Outcome] = None
+    is_refused = False
 
 
 _ATTEMPT: ContextVar[_Attempt] = ContextVar("lemonrudder.attempt")
@@ -131,7 +132,7 @@ class Durable:
             returned = performer.function(*((asked.body,) if asked.arguments is None else asked.arguments))
             if inspect.isawaitable(returned):
                 returned = await returned
-            if attempt.outcome is not None:
+            if attempt.outcome is not None or attempt.is_refused:
                 return attempt.outcome
         except Kept:
             return None
@@ -204,8 +205,13 @@ class Durable:
         """What Current.store does."""
         outcome = self.outcome(asked, results)
         if asked.ft is not None:
-            await self.store.put(transaction, asked.ft, outcome)
-            _ATTEMPT.get().outcome = outcome
+            attempt = _ATTEMPT.get()
+            try:
+                await self.store.put(transaction, asked.ft, outcome)
+            except (Kept, Refuse):
+                attempt.is_refused = True
+                raise
+            attempt.outcome, attempt.is_refused = outcome, False
         return outcome
 
     def outcome(self, asked: Asked, ended: Any) -> Outcome:

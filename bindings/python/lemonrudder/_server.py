@@ -64,7 +64,8 @@ class Server:
     is looked up there first, and no other is performed but in place of one of which it has nothing. A servant writes
     its outcome in the transaction of what it does, by current().store. One that does not has it written afterwards:
     that is for those that change nothing. An exception that it raises undoes its transaction, and is written so too.
-    While the store can't be used, requests with FT_REQUEST are answered TRANSIENT. purge_every: the seconds after which
+    While the store can't be used, requests with FT_REQUEST are answered TRANSIENT. capacity and share then count for
+    nothing. purge_every: the seconds after which
     outcomes that expired are taken out, again and again; None: never.
 
     The logger `lemonrudder` has a line for each connection that ends, and why: at DEBUG where its peer or the server
@@ -83,7 +84,8 @@ class Server:
         self.write_timeout = write_timeout
         self.log = logging.getLogger("lemonrudder")
         self._lines = Lines(self.log)
-        self._terms = (limit, partials, capacity, share)
+        # (with a store nothing is kept, but each parked request has its place)
+        self._terms = (limit, partials, capacity, share) if store is None else (limit, partials, max_parked, None)
         self._limits = {"max_parked": max_parked, "max_parked_of": max_parked_of, "max_joined": max_joined,
                         "max_due": max_due, "max_client_id": max_client_id}
         # what is on offer; before `listen` a catalogue says whether it can be
