@@ -38,7 +38,8 @@ class Model:
         accounts, outcomes = dict(self.accounts), dict(self.outcomes)
 
         def apply():
-            self.accounts, self.outcomes = accounts, outcomes
+            self.accounts.update(accounts)
+            self.outcomes.update(outcomes)
 
         yield accounts, outcomes
         deed = self.commits.pop(0) if self.commits else None
@@ -188,6 +189,22 @@ class OverAModel(unittest.IsolatedAsyncioTestCase):
         self.assertEqual(await self.ask(1, "deposit", "a", 7), ("TRANSIENT", 0, MAYBE))
         await self.answers(7, 1, "deposit", "a", 7)
         self.assertEqual(self.model.accounts, {"a": 7})
+
+    async def test_in_doubt_it_never_says_no(self):
+        """The servant can't go on when it is performed again, while the first commit may come true, and does."""
+        for number, (raised, want) in enumerate(((Down(), "TRANSIENT"), (lr.Refuse("NO_RESOURCES"), "NO_RESOURCES")), 1):
+            async def refuse(account, cents):
+                self.bank.performed += 1
+                if self.bank.performed == 1:
+                    return await self.bank.deposit(account, cents)
+                raise raised
+            with self.subTest(want):
+                self.bank.performed, self.model.commits = 0, ["late"]
+                self.server.add(f"{number}", (), {"deposit": ("sq", "q", refuse)})
+                self.assertEqual(await self.ask(number, "deposit", f"{number}", 7, key=b"%d" % number), (want, 0, MAYBE))
+                self.model.late()
+                self.model.late = None
+                await self.answers(7, number, "deposit", f"{number}", 7)
 
     async def test_another_process_was_quicker(self):
         """What was done meanwhile is undone, and its outcome answered."""

@@ -101,7 +101,7 @@ class Durable:
                 raise judged.answer
             if judged.answer is not None:
                 return judged.answer
-            ended = await self._attempt(asked, judged.performer)
+            ended = await self._attempt(asked, judged.performer, is_in_doubt)
             if ended is not None:
                 self._note_success()
                 return ended
@@ -123,8 +123,9 @@ class Durable:
             await asyncio.sleep(delay)
             delay = min(2 * delay, _MOST)
 
-    async def _attempt(self, asked: Asked, performer: Any) -> Optional[Outcome]:
-        """Performs a request of which the store has nothing. None: ask the store. Raises Refuse."""
+    async def _attempt(self, asked: Asked, performer: Any, is_in_doubt: bool) -> Optional[Outcome]:
+        """Performs a request of which the store has nothing. None: ask the store. Raises Refuse, but in doubt, where an
+        earlier attempt may come true yet."""
         attempt = _Attempt()
         token = _ATTEMPT.set(attempt)
         returned: Any = None
@@ -140,15 +141,21 @@ class Durable:
             is_trouble = self.store.is_trouble(error)
             if is_trouble:
                 self._note(error)
+            if attempt.is_refused:
+                return None
             if attempt.outcome is not None:
                 # (its transaction is undone by what was raised in it, and committed before what was raised behind it;
                 # but COMMIT itself may have failed, and come true)
                 found = None if is_trouble else await self._asked(asked)
                 if is_trouble or found is not None:
                     return found
+            if is_trouble and is_in_doubt:
+                return None
             if is_trouble:
                 raise Refuse("TRANSIENT") from error
             if isinstance(error, (Refuse, GiveUp)):
+                if is_in_doubt:
+                    return unknown(error.name if isinstance(error, Refuse) else "TRANSIENT")
                 raise
             returned = error
         finally:

@@ -84,8 +84,8 @@ class Server:
         self.write_timeout = write_timeout
         self.log = logging.getLogger("lemonrudder")
         self._lines = Lines(self.log)
-        # (with a store nothing is kept, but each parked request has its place)
-        self._terms = (limit, partials, capacity, share) if store is None else (limit, partials, max_parked, None)
+        # (with a store nothing is kept, but each request that is parked, or is to be, takes a place)
+        self._terms = (limit, partials, capacity, share) if store is None else (limit, partials, max_parked + 1, None)
         self._limits = {"max_parked": max_parked, "max_parked_of": max_parked_of, "max_joined": max_joined,
                         "max_due": max_due, "max_client_id": max_client_id}
         # what is on offer; before `listen` a catalogue says whether it can be
