@@ -4,10 +4,10 @@
 usage: measure_durable.py PROGRAMS [--rounds 3] [--seconds 3]
 
 PROGRAMS is the folder that bench/durable fills. Clients deposit over loopback, each into an account of its own and one
-call at a time, with FT_REQUEST; each reply is looked at. The databases do the same statements, but for looking a request
-up: SQLite by one writer, so many deposits in a transaction as there are clients; PostgreSQL by pgbench, as many clients
-with a transaction for each deposit, and by one connection as SQLite. Printed is the median of so many rounds, in which all
-take turns, and the ratio to the database alone, the least and the greatest of a round.
+call at a time, with FT_REQUEST; each reply is looked at. The databases do the same statements, but for looking a
+request up: SQLite by one writer, so many deposits in a transaction as there are clients; PostgreSQL by pgbench, as
+many clients with a transaction for each deposit, and by one connection as SQLite. Printed is the median of so many
+rounds, in which all take turns, and the ratio to the database alone, with the least and the greatest of a round.
 """
 import argparse
 import os
@@ -17,7 +17,6 @@ import statistics
 import subprocess
 import sys
 import tempfile
-import time
 
 sys.path.insert(0, os.path.dirname(os.path.dirname(os.path.realpath(__file__))))
 from tests.embed.durable import Postgres, free_port  # noqa: E402
@@ -119,8 +118,8 @@ def main():
             found = rounds_of(Measure(given.programs, folder, postgres, given.seconds), given.rounds)
     finally:
         postgres.close()
-    print(f"deposits a second, median of {given.rounds}; load {os.getloadavg()[0]:.1f} on {os.cpu_count()} processors at the "
-          f"end, {time.strftime('%Y-%m-%d')}")
+    load, processors = os.getloadavg()[0], os.cpu_count()
+    print(f"deposits a second, median of {given.rounds}; the load was {load:.1f} on {processors} processors")
     for clients in CLIENTS:
         for name in dict.fromkeys(name for name, _ in found):
             some = found[name, clients]

@@ -5,8 +5,8 @@
  *     cc -o bank_durable bank_durable.c bank_sqlite.c loop.c $(pkg-config --cflags --libs lemonrudder sqlite3) -pthread
  *     ./bank_durable bank.db 127.0.0.1 2809
  *
- * STORE is the path of a SQLite file. With -DBANK_POSTGRES, bank_postgres.c and libpq it may be an address of PostgreSQL,
- * postgres://.., of which several banks may be one.
+ * STORE is the path of a SQLite file. With -DBANK_POSTGRES, bank_postgres.c and libpq it may be an address of
+ * PostgreSQL, postgres://.., which several banks may share.
  *
  * It prints its reference, and serves until SIGTERM. A deposit with FT_REQUEST that is sent again acts once, also where
  * the process was killed meanwhile, or another one on the same database was asked first: its outcome is looked up, and

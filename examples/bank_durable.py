@@ -1,15 +1,15 @@
 #!/usr/bin/env python3
-"""A bank whose accounts and outcomes are one database: a deposit that is sent again acts once, also where the server was
-killed and started anew meanwhile, or where another one on the same database is asked.
+"""A bank whose accounts and outcomes are one database. A deposit that is sent again acts once, also where the server
+was killed and started anew meanwhile, or where another one on the same database is asked.
 
 usage: bank_durable.py --store STORE [--port PORT] [--purge SECONDS]
 
-STORE is the path of a SQLite file, or an address of PostgreSQL, postgres://.., for which asyncpg is wanted. It listens on
-127.0.0.1, at a free port if none is given, prints its reference, and serves until SIGTERM or SIGINT. The object of the
-key `bank` has the interface of bank.idl. Outcomes whose requests expired are taken out every so many seconds, or 60.
+STORE is the path of a SQLite file, or an address of PostgreSQL, postgres://.., for which it takes asyncpg. It listens
+on 127.0.0.1, at a free port if none is given, prints its reference, and serves until SIGTERM or SIGINT. The object of
+the key `bank` has the interface of bank.idl. Every so many seconds, or 60, it takes out outcomes that expired.
 
 Where the environment names a point in BANK_DIES_AT, as stored, the process kills itself when it comes there; of
-stored:3 the third time. BANK_CLOCK has seconds by which its clock is wrong.
+stored:3 the third time.
 """
 import argparse
 import asyncio

@@ -1,7 +1,7 @@
 /*
- * The store of bank_store.h in PostgreSQL, by libpq. Several processes may share the database. W is read FOR SHARE where
- * a transaction begins, and a purge takes it FOR UPDATE. Statements are sent in a pipeline: those whose rows don't matter
- * are not waited for, until rows are asked for, or the transaction is committed.
+ * The store of bank_store.h in PostgreSQL, by libpq. Several processes may share the database. W is read FOR SHARE
+ * where a transaction begins, and a purge takes it FOR UPDATE. Statements are sent in a pipeline: those whose rows
+ * don't matter are not waited for, until rows are asked for, or the transaction is committed.
  */
 #include "bank_store.h"
 
@@ -24,7 +24,8 @@ static const char *const texts[][2] = {
     {"version", "SELECT version FROM forgotten"},
     {"least", "SELECT moment FROM forgotten FOR SHARE"},
     {"find", "SELECT status, little, body FROM outcome WHERE client = $1 AND retention = $2"},
-    {"keep", "INSERT INTO outcome (client, retention, expiration, status, little, body) VALUES ($1, $2, $3, $4, $5, $6)"},
+    {"keep", "INSERT INTO outcome (client, retention, expiration, status, little, body)"
+             " VALUES ($1, $2, $3, $4, $5, $6)"},
     {"balance", "SELECT balance FROM account WHERE name = $1 FOR UPDATE"},
     {"make", "INSERT INTO account VALUES ($1, 0) ON CONFLICT DO NOTHING"},
     {"set", "UPDATE account SET balance = $2 WHERE name = $1"},

@@ -2,8 +2,8 @@
  * The database of bank_durable.c: accounts, and the outcomes of requests by their keys. One thread uses it.
  *
  * Beside the outcomes there is the mark W: the greatest expiration that was taken out, plus 1. A request whose
- * expiration lies before W is refused, whatever clocks say. It is read under a lock that a purge takes too, and so stays
- * as it is to the end of a transaction.
+ * expiration lies before W is refused, whatever clocks say. It is read under a lock that a purge takes too, and so
+ * stays as it is to the end of a transaction.
  */
 #ifndef BANK_STORE_H
 #define BANK_STORE_H
@@ -23,7 +23,7 @@ struct key {
   uint64_t expiration;
 };
 
-/* What became of it: the status, the order and the body of its Reply. The body is from malloc, and freed by who has it. */
+/* What became of it: the status, the order and the body of its Reply, which is from malloc. */
 struct outcome {
   uint32_t status, order;
   unsigned char *body;

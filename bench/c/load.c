@@ -1,12 +1,13 @@
 /*
- * Clients that call add(7) of a counter as fast as its replies come, each with one request outstanding, or deposit 7 with
- * a bank (examples/bank.idl), each into an account of its own:
+ * Clients that call add(7) of a counter as fast as its replies come, each with one request outstanding, or deposit 7
+ * with a bank (examples/bank.idl), each into an account of its own:
  *
  *     load PORT KEY CLIENTS THREADS MILLISECONDS plain|keyed|deposits[:SECONDS]
  *
  * PORT is one of 127.0.0.1, KEY the object key in hexadecimal digits. The requests are of GIOP 1.2 in big order; those
  * of `keyed` have FT_REQUEST, a client id for each connection, and numbers that rise, which expire a second after they
- * are sent, those of `deposits` a minute, or so many. Each thread has its share of the connections, over poll(). A fifth of the time again passes before it counts.
+ * are sent, those of `deposits` a minute, or so many. Each thread has its share of the connections, over poll(). A
+ * fifth of the time again passes before it counts.
  *
  * It prints how many replies came in that time, how many seconds it was, the part of it for which its threads
  * were busy, and how many replies came in all. Each reply has to be one without an exception, and the greatest result

@@ -135,7 +135,8 @@ class Bank:
         begin = ["-c", LATE_PYTHON, str(late), *begin] if late else begin
         return [self.python, *begin, "--store", self.store, "--port", str(self.port), "--purge", str(purge)]
 
-    def begin(self, dies_at: str = "", *, purge: int = 3600, late: int = 0, file_limit: int = 0, **options: object) -> None:
+    def begin(self, dies_at: str = "", *, purge: int = 3600, late: int = 0, file_limit: int = 0,
+              **options: object) -> None:
         """Begins a life, whose clock is wrong by so many seconds."""
         env = {**os.environ, "BANK_DIES_AT": dies_at, "LATE": str(late)}
         if late and self.language == "c":
@@ -223,8 +224,8 @@ class Postgres:
 
     def asked(self, words: str) -> str:
         """What psql prints."""
-        ran = subprocess.run([os.path.join(self.bin, "psql"), "-Atqc", words, self.address], capture_output=True, text=True,
-                             timeout=SECONDS, check=True)
+        ran = subprocess.run([os.path.join(self.bin, "psql"), "-Atqc", words, self.address], capture_output=True,
+                             text=True, timeout=SECONDS, check=True)
         return ran.stdout.strip()
 
     def close(self) -> None:
@@ -360,7 +361,8 @@ async def callers_of(banks: list[Bank], count: int, dice: random.Random, name: s
     async with contextlib.AsyncExitStack() as stack:
         relays = [await stack.enter_async_context(Relay(bank.port, dice)) for bank in banks]
         ports = [relay.port for relay in relays]
-        callers = [Caller(f"{name}{number}", ports[number % len(ports):] + ports[: number % len(ports)], dice, f"{name} all")
+        turned = [ports[at:] + ports[:at] for at in range(len(ports))]
+        callers = [Caller(f"{name}{number}", turned[number % len(turned)], dice, f"{name} all")
                    for number in range(count)]
         yield callers, relays
 

@@ -1,5 +1,5 @@
-"""Kills the banks of examples/bank_durable.c and .py at each point and by chance, stops them, restarts their databases, and
-looks whether each call acted once and has one answer.
+"""Kills the banks of examples/bank_durable.c and .py at each point and by chance, stops them, restarts their databases,
+and looks whether each call acted once and has one answer.
 
 Each is over SQLite and over PostgreSQL, which the tests start themselves. Clients call meanwhile, over connections that
 are cut; what each call has to answer they reckon themselves.
@@ -118,7 +118,7 @@ async def answer_of(bank: Bank, client_id: str, number: int, operation: str, cen
 
 
 async def forgotten(bank: Bank, other: Bank, count: object, name: str) -> None:
-    """What a bank took out whose clock is ahead is not performed anew, whatever clock its own later life or another bank
+    """What a bank took out whose clock is ahead is not performed anew, whatever clock its next life or another bank
     has."""
     other.begin()
     bank.begin()
@@ -230,8 +230,8 @@ class OverSqlite(unittest.TestCase):
     def test_what_is_stored_is_answered_first(self, language):
         with self.bank(language) as bank:
             def keep(name, number, status, order, body):
-                self.done(bank.store, "INSERT INTO outcome VALUES (?, ?, ?, ?, ?, ?)", name.encode(), number, b"\xff" * 8,
-                          status, order, body)
+                self.done(bank.store, "INSERT INTO outcome VALUES (?, ?, ?, ?, ?, ?)", name.encode(), number,
+                          b"\xff" * 8, status, order, body)
             asyncio.run(recalled(bank, keep, "client"))
 
     @base.each(lambda: [("c, then py", ("c", "py")), ("py, then c", ("py", "c"))])
@@ -349,19 +349,20 @@ class OverPostgres(unittest.TestCase):
     @base.each(lambda: LANGUAGES)
     def test_what_is_stored_is_answered_first(self, language):
         def keep(name, number, status, order, body):
-            self.postgres.asked(f"INSERT INTO outcome VALUES ('{name}', {number}, '\\xffffffffffffffff', {int(status)}, "
-                                f"{int(order)}, '\\x{body.hex()}')")
+            self.postgres.asked(f"INSERT INTO outcome VALUES ('{name}', {number}, '\\xffffffffffffffff', "
+                                f"{int(status)}, {int(order)}, '\\x{body.hex()}')")
         with self.bank(language) as bank:
             asyncio.run(recalled(bank, keep, f"{language}-stored"))
 
     @base.each(lambda: LANGUAGES)
     def test_a_database_that_is_away(self, language):
         """It is declined while it is away, and while it can't be written; then it is performed."""
+        name = f"{language}-away"
         with self.bank(language) as bank:
             self.postgres.stop()
             try:
                 bank.begin()
-                asyncio.run(declined(bank, f"{language}-away", ""))
+                asyncio.run(declined(bank, name, ""))
             finally:
                 self.postgres.start()
-            until(lambda: asyncio.run(answer_of(bank, f"{language}-away", 3, "deposit", 7, ENDLESS)) == 7, "it is there")
+            until(lambda: asyncio.run(answer_of(bank, name, 3, "deposit", 7, ENDLESS)) == 7, "it is there")

@@ -192,7 +192,9 @@ class OverAModel(unittest.IsolatedAsyncioTestCase):
 
     async def test_in_doubt_it_never_says_no(self):
         """The servant can't go on when it is performed again, while the first commit may come true, and does."""
-        for number, (raised, want) in enumerate(((Down(), "TRANSIENT"), (lr.Refuse("NO_RESOURCES"), "NO_RESOURCES")), 1):
+        for number, raised, want in ((1, Down(), "TRANSIENT"), (2, lr.Refuse("NO_RESOURCES"), "NO_RESOURCES")):
+            key, account = b"%d" % number, f"{number}"
+
             async def refuse(account, cents):
                 self.bank.performed += 1
                 if self.bank.performed == 1:
@@ -200,11 +202,11 @@ class OverAModel(unittest.IsolatedAsyncioTestCase):
                 raise raised
             with self.subTest(want):
                 self.bank.performed, self.model.commits = 0, ["late"]
-                self.server.add(f"{number}", (), {"deposit": ("sq", "q", refuse)})
-                self.assertEqual(await self.ask(number, "deposit", f"{number}", 7, key=b"%d" % number), (want, 0, MAYBE))
+                self.server.add(key, (), {"deposit": ("sq", "q", refuse)})
+                self.assertEqual(await self.ask(number, "deposit", account, 7, key=key), (want, 0, MAYBE))
                 self.model.late()
                 self.model.late = None
-                await self.answers(7, number, "deposit", f"{number}", 7)
+                await self.answers(7, number, "deposit", account, 7)
 
     async def test_another_process_was_quicker(self):
         """What was done meanwhile is undone, and its outcome answered."""

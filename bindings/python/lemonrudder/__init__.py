@@ -68,10 +68,11 @@ from ._table import (VERSION, Completed, ContextId, Counted, Error, Fault, Locat
 __all__ = [
     "BIG", "FT_REQUEST", "LIMIT", "LITTLE", "PARTIALS", "REFERENCE", "VERSION", "Address", "Asked", "Assembler", "Body",
     "Catalogue", "Client", "Completed", "ContextId", "Counted", "Current", "Engine", "Error", "Expired", "Fault",
-    "FormatError", "ForwardRequest", "FtRequest", "GiveUp", "Ior", "Kept", "LemonrudderError", "LocateStatus", "Message",
+    "FormatError", "ForwardRequest", "FtRequest", "GiveUp", "Ior", "Kept", "LemonrudderError", "LocateStatus",
+    "Message",
     "MessageType", "NeedsAddressing", "Operation", "Order", "Outcome", "PostgresStore", "Profile", "RawReply", "Reader",
     "Refuse", "ReplyStatus", "Server", "Signature", "SqliteStore", "Store", "StoreError", "StreamError",
-    "SystemException", "SystemName", "UserException", "Why", "Wish", "Writer", "current", "messages", "moment_of", "now",
-    "pack", "type_codes", "unpack", "write_cancel", "write_close", "write_error", "write_ft", "write_locate_reply",
+    "SystemException", "SystemName", "UserException", "Why", "Wish", "Writer", "current", "messages", "moment_of",
+    "now", "pack", "type_codes", "unpack", "write_cancel", "write_close", "write_error", "write_ft", "write_locate_reply",
     "write_locate_request", "write_reply", "write_request",
 ]

@@ -62,7 +62,7 @@ class Servant:
 
 @dataclass(frozen=True)
 class Judged:
-    """A request, with its arguments, and what performs it; or, where nothing does, what it is answered or refused by."""
+    """A request with its arguments, and what performs it; or, where nothing does, what it is answered or refused by."""
 
     asked: Asked
     performer: Optional[Performer]
@@ -179,7 +179,9 @@ class Offer:
         try:
             if performer is not None:
                 signature = performer.signature
-                return Judged(asked if signature is None else replace(asked, arguments=asked.body.unpack(signature.arguments)), performer)
+                if signature is not None:
+                    asked = replace(asked, arguments=asked.body.unpack(signature.arguments))
+                return Judged(asked, performer)
             if servant.ids and asked.operation == "_non_existent":
                 return Judged(asked, None, Outcome(ReplyStatus.NO_EXCEPTION, BIG, pack("?", False)))
             if servant.ids and asked.operation == "_is_a":

@@ -45,8 +45,8 @@ class SqliteStore:
     requests that wait together, `group` at most, are committed by one COMMIT, on another thread, each undone alone.
 
     path: the file. schema: statements that make the tables of the servants where they are missing. busy: the seconds
-    that another process may keep the file from being written. It has its tables `outcome` and `forgotten`, a write-ahead
-    log, and synchronous=FULL: what is committed outlives a power cut.
+    that another process may keep the file from being written. It has its tables `outcome` and `forgotten`, a
+    write-ahead log, and synchronous=FULL: what is committed outlives a power cut.
     """
 
     def __init__(self, path: str, schema: str = "", *, group: int = 256, busy: float = 5.0) -> None:
