@@ -194,10 +194,10 @@ static bool perform_all(struct job **jobs, size_t count) {
   return is_committed;
 }
 
-/* The loop's thread answers it. */
-static void hand_over(struct job *job) {
+/* The loop's thread answers them. */
+static void hand_over(struct job **jobs, size_t count) {
   pthread_mutex_lock(&lock);
-  push(&made, job);
+  for (size_t index = 0; index < count; index++) push(&made, jobs[index]);
   pthread_mutex_unlock(&lock);
   loop_wake();
 }
@@ -215,7 +215,7 @@ static void perform_alone(struct job *job) {
     }
     nanosleep(&(struct timespec){0, PAUSE}, NULL);
   }
-  hand_over(job);
+  hand_over(&job, 1);
 }
 
 static int compare(const void *left, const void *right) {
@@ -244,7 +244,8 @@ static void *work(void *nothing) {
     pthread_mutex_unlock(&lock);
     qsort(jobs, count, sizeof *jobs, compare); /* (who takes several locks does so in one order) */
     bool is_done = count > 1 && perform_all(jobs, count);
-    for (size_t index = 0; index < count; index++) is_done ? hand_over(jobs[index]) : perform_alone(jobs[index]);
+    if (is_done) hand_over(jobs, count);
+    for (size_t index = 0; index < count && !is_done; index++) perform_alone(jobs[index]);
     if (time(NULL) >= next) {
       purge();
       next = time(NULL) + purge_every;
