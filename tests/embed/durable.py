@@ -225,7 +225,8 @@ class Postgres:
     def asked(self, words: str) -> str:
         """What psql prints."""
         ran = subprocess.run([os.path.join(self.bin, "psql"), "-Atqc", words, self.address], capture_output=True,
-                             text=True, timeout=SECONDS, check=True)
+                             text=True, timeout=SECONDS, check=True,
+                             env={**os.environ, "PGOPTIONS": "-c default_transaction_read_only=off"})
         return ran.stdout.strip()
 
     def close(self) -> None:

@@ -355,6 +355,27 @@ class OverPostgres(unittest.TestCase):
             asyncio.run(recalled(bank, keep, f"{language}-stored"))
 
     @base.each(lambda: LANGUAGES)
+    def test_a_database_that_is_none(self, language):
+        """It can't be written, or is of another version; then it can be used."""
+        for away, back, line in (
+                ("ALTER DATABASE postgres SET default_transaction_read_only = on",
+                 "ALTER DATABASE postgres RESET default_transaction_read_only",
+                 "read-only transaction"),
+                ("UPDATE forgotten SET version = 7", "UPDATE forgotten SET version = 1", "of version 7, and not 1")):
+            with self.bank(language) as bank:
+                name = f"{language}-{line.partition(' ')[0]}"
+                bank.begin()
+                self.assertEqual(asyncio.run(balance_of(bank.port, name)), 0)
+                bank.end()
+                self.postgres.asked(away)
+                try:
+                    bank.begin()
+                    asyncio.run(declined(bank, name, line))
+                finally:
+                    self.postgres.asked(back)
+                until(lambda: asyncio.run(answer_of(bank, name, 3, "deposit", 7, ENDLESS)) == 7, "it is there")
+
+    @base.each(lambda: LANGUAGES)
     def test_a_database_that_is_away(self, language):
         """It is declined while it is away, and while it can't be written; then it is performed."""
         name = f"{language}-away"

@@ -47,8 +47,8 @@ class Current:
 
     def reply_contexts(self, contexts: Sequence[Tuple[int, Octets]]) -> None:
         """Ids and data of service contexts for the replies to this request, as of Engine.reply_contexts: those that
-        were said for it last. Raises ValueError or TypeError: they are none; LemonrudderError (TICKET: it is
-        answered)."""
+        were said for it last. Of a server with a store the replies to requests with FT_REQUEST go without. Raises
+        ValueError or TypeError: they are none; LemonrudderError (TICKET: it is answered)."""
         self._say(contexts)
 
     async def store(self, transaction: Any, results: Any = None) -> Outcome:
