@@ -136,19 +136,24 @@ class Bank:
         return [self.python, *begin, "--store", self.store, "--port", str(self.port), "--purge", str(purge)]
 
     def begin(self, dies_at: str = "", *, purge: int = 3600, late: int = 0, file_limit: int = 0,
-              **options: object) -> None:
-        """Begins a life, whose clock is wrong by so many seconds."""
+              as_other: bool = False) -> None:
+        """Begins a life, whose clock is wrong by so many seconds, whose files have so many octets at most, or as another
+        user."""
         env = {**os.environ, "BANK_DIES_AT": dies_at, "LATE": str(late)}
         if late and self.language == "c":
             env["LD_PRELOAD"] = os.path.join(self.folder, "late.so")
 
         def limit() -> None:
-            signal.signal(signal.SIGXFSZ, signal.SIG_IGN)
-            resource.setrlimit(resource.RLIMIT_FSIZE, (file_limit, file_limit))
+            if file_limit:
+                signal.signal(signal.SIGXFSZ, signal.SIG_IGN)
+                resource.setrlimit(resource.RLIMIT_FSIZE, (file_limit, file_limit))
+            if as_other:
+                os.setgid(65534)
+                os.setuid(65534)
 
         self.process = subprocess.Popen(self.words(purge, late), stdin=subprocess.DEVNULL, stdout=subprocess.PIPE,
                                         stderr=self.errors, text=True, env=env,
-                                        preexec_fn=limit if file_limit else None, **options)
+                                        preexec_fn=limit if file_limit or as_other else None)
         if not self.process.stdout.readline().startswith("IOR:"):
             raise AssertionError(f"the bank did not begin: {self.said()}")
 

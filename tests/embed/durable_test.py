@@ -278,15 +278,13 @@ class OverSqlite(unittest.TestCase):
             bank.begin()
             assert asyncio.run(answer_of(bank, "other", 1, "deposit", 7, ENDLESS)) == 7
             bank.end(signal.SIGTERM)
-            options = {}
-            if os.geteuid() == 0:
-                # (who is root may write it)
-                if language == "py" and bank.python.startswith("/root"):
-                    bank.python = durable.python_for_all()
-                options = {"user": 65534, "group": 65534}
+            # (who is root may write it)
+            is_root = os.geteuid() == 0
+            if is_root and language == "py" and bank.python.startswith("/root"):
+                bank.python = durable.python_for_all()
             os.chmod(bank.store, 0o444)
             os.chmod(os.path.dirname(bank.store), 0o555)
-            bank.begin(**options)
+            bank.begin(as_other=is_root)
             asyncio.run(declined(bank, "client", ""))
             os.chmod(os.path.dirname(bank.store), 0o755)
 
