@@ -18,7 +18,7 @@ import time
 import unittest
 from collections.abc import AsyncIterator, Callable, Iterator
 
-from tests.programs import NEEDS, ROOT, library
+from tests.programs import NEEDS, ROOT, library, tool
 
 if "LEMONRUDDER_LIBRARY" not in os.environ:
     os.environ["LEMONRUDDER_LIBRARY"] = os.path.join(library(), "lib", "liblemonrudder.so")
@@ -71,18 +71,14 @@ def compiled(folder: str, *words: str) -> None:
         raise AssertionError(ran.stderr)
 
 
-def flags_of(package: str, header: str) -> list[str]:
+def flags_of(package: str, debian: str) -> list[str]:
     """The words that compile and link a program with a package. Skips the test where it is missing."""
-    if shutil.which("cc") is None:
-        raise unittest.SkipTest(NEEDS + "cc")
-    ran = subprocess.run(["cc", "-E", "-include", header, "-x", "c", os.devnull], capture_output=True, check=False)
-    found = shutil.which("pkg-config") and subprocess.run(["pkg-config", "--cflags", "--libs", package],
-                                                          capture_output=True, text=True, check=False)
-    if found and found.returncode == 0:
-        return found.stdout.split()
-    if ran.returncode == 0:
-        return ["-l" + package.replace("lib", "")]
-    raise unittest.SkipTest(NEEDS + package)
+    tool("cc")
+    found = subprocess.run([tool("pkg-config"), "--cflags", "--libs", package], capture_output=True, text=True,
+                           check=False)
+    if found.returncode != 0:
+        raise unittest.SkipTest(NEEDS + debian)
+    return found.stdout.split()
 
 
 @functools.lru_cache(maxsize=None)
@@ -90,10 +86,10 @@ def made(is_postgres: bool) -> str:
     """The folder of the bank in C, and of the clock that is wrong."""
     folder = tempfile.mkdtemp(prefix="durable-")
     os.chmod(folder, 0o755)
-    flags = flags_of("sqlite3", "sqlite3.h")
+    flags = flags_of("sqlite3", "libsqlite3-dev")
     sources = ["bank_durable.c", "bank_sqlite.c", "loop.c"]
     if is_postgres:
-        flags = [*flags, "-DBANK_POSTGRES", *flags_of("libpq", "postgresql/libpq-fe.h")]
+        flags = [*flags, "-DBANK_POSTGRES", *flags_of("libpq", "libpq-dev")]
         sources.append("bank_postgres.c")
     lib = library()
     compiled(folder, f"-I{lib}/include", *(os.path.join(EXAMPLES, name) for name in sources),
@@ -233,6 +229,25 @@ class Postgres:
                              text=True, timeout=SECONDS, check=True,
                              env={**os.environ, "PGOPTIONS": "-c default_transaction_read_only=off"})
         return ran.stdout.strip()
+
+    @contextlib.contextmanager
+    def session(self) -> Iterator[Callable[[str], None]]:
+        """What runs statements in a session, and returns once they are done."""
+        with subprocess.Popen([os.path.join(self.bin, "psql"), "-Atqn", self.address], stdin=subprocess.PIPE,
+                              stdout=subprocess.PIPE, text=True) as psql:
+            def say(words: str) -> None:
+                psql.stdin.write(f"{words};\n\\echo done\n")
+                psql.stdin.flush()
+                while psql.stdout.readline() != "done\n":
+                    if psql.poll() is not None:
+                        raise AssertionError(f"psql: {words}")
+
+            yield say
+            psql.stdin.close()
+
+    def who_wait(self) -> int:
+        """How many sessions wait for a lock."""
+        return int(self.asked("SELECT count(*) FROM pg_stat_activity WHERE wait_event_type = 'Lock'"))
 
     def close(self) -> None:
         with contextlib.suppress(AssertionError):

@@ -12,6 +12,7 @@ import os
 import random
 import signal
 import unittest
+from concurrent.futures import ThreadPoolExecutor
 
 from tests import base
 from tests.embed import durable
@@ -343,6 +344,30 @@ class OverPostgres(unittest.TestCase):
         self.postgres.asked("DROP TABLE IF EXISTS forgotten, outcome")
         with self.bank(language) as bank, self.bank(language) as other:
             asyncio.run(forgotten(bank, other, count, f"{language}-forgotten"))
+
+    @base.each(lambda: LANGUAGES)
+    def test_the_mark_moves_under_a_lock(self, language):
+        """What is performed waits for who takes out, and then sees how far; who takes out waits for it."""
+        name, near = f"{language}-mark", lr.now() + 1200 * 10**7
+        with self.bank(language) as bank, self.postgres.session() as say, ThreadPoolExecutor(1) as pool:
+            def ask(number, expiration):
+                return pool.submit(asyncio.run, answer_of(bank, name, number, "deposit", 7, expiration))
+            bank.begin()
+            self.assertEqual(asyncio.run(balance_of(bank.port, name)), 0)
+            say("BEGIN; SELECT moment FROM forgotten FOR UPDATE")
+            asking = ask(1, near)
+            until(lambda: self.postgres.who_wait() == 1, "it waits")
+            say(f"UPDATE forgotten SET moment = decode(lpad(to_hex({near + 1}), 16, '0'), 'hex'); COMMIT")
+            self.assertEqual(asking.result(), ("BAD_CONTEXT", lr.Completed.NO))
+            self.assertEqual(ask(2, near + 1).result(), 7)
+            bank.end()
+            say("BEGIN; SELECT moment FROM forgotten FOR SHARE")
+            bank.begin(late=3600, purge=1)
+            until(lambda: self.postgres.who_wait() == 1, "it waits to take out")
+            count = f"SELECT count(*) FROM outcome WHERE client = '{name}' AND retention = 2"
+            self.assertEqual(self.postgres.asked(count), "1")
+            say("COMMIT")
+            until(lambda: self.postgres.asked(count) == "0", "it is taken out")
 
     @base.each(lambda: LANGUAGES)
     def test_what_is_stored_is_answered_first(self, language):

@@ -31,6 +31,7 @@ INSERT INTO outcome (client, retention, expiration, status, little, body)
 SELECT $1::bytea, $2::integer, $3::bytea, $4::integer, $5::integer, $6::bytea
 FROM (SELECT moment FROM forgotten FOR SHARE) AS mark WHERE moment <= $3
 """
+_GREATEST = "SELECT expiration FROM outcome WHERE expiration < $1 ORDER BY expiration DESC LIMIT 1"
 # which lock makes the tables; the state of an error that says that a key is there; and those, by their first two
 # characters, that say that the database failed: its connection, a transaction, its room, an operator, the system
 _LOCK = 0x4c520001
@@ -121,12 +122,13 @@ class PostgresStore:
         async with self.transaction() as db:
             before = octets_of_moment(moment)
             await db.fetch("SELECT moment FROM forgotten FOR UPDATE")
-            rows = await db.fetch("DELETE FROM outcome WHERE expiration < $1 RETURNING expiration", before)
-            if rows:
-                greatest = max(bytes(row[0]) for row in rows)
-                least = octets_of_moment(int.from_bytes(greatest, "big") + 1)
-                await db.execute("UPDATE forgotten SET moment = greatest(moment, $1)", least)
-            return len(rows)
+            greatest = await db.fetchval(_GREATEST, before)
+            if greatest is None:
+                return 0
+            least = octets_of_moment(int.from_bytes(greatest, "big") + 1)
+            await db.execute("UPDATE forgotten SET moment = greatest(moment, $1)", least)
+            done = await db.execute("DELETE FROM outcome WHERE expiration < $1", least)
+            return int(done.split()[1])
 
     async def _open(self) -> None:
         """Opens it, and makes the tables that are missing."""
