@@ -65,7 +65,7 @@ class Server:
     its outcome in the transaction of what it does, by current().store. One that does not has it written afterwards:
     that is for those that change nothing. An exception that it raises undoes its transaction, and is written so too.
     While the store can't be used, requests with FT_REQUEST are answered TRANSIENT. capacity and share then count for
-    nothing. purge_every: the seconds after which
+    nothing, and each locate is answered that the object is here. purge_every: the seconds after which
     outcomes that expired are taken out, again and again; None: never.
 
     The logger `lemonrudder` has a line for each connection that ends, and why: at DEBUG where its peer or the server

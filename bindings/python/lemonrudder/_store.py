@@ -1,16 +1,10 @@
 """Stores: where a Server keeps outcomes that outlive it."""
 from __future__ import annotations
 
-import sys
-from typing import Any, AsyncContextManager, Optional
+from typing import Any, AsyncContextManager, Optional, Protocol
 
 from ._messages import FtRequest
 from ._outcomes import Outcome
-
-if sys.version_info >= (3, 8):
-    from typing import Protocol
-else:  # (which is not served)
-    Protocol = object
 
 VERSION = 1
 """The version of the tables `outcome` and `forgotten`."""
