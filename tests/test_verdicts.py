@@ -5,7 +5,7 @@ import unittest
 import unittest.mock
 
 from tests.edits import Edit, Pair, functions_of
-from tests.verdicts import NAMES_ONLY, PROVED, REFUSED, UNSURE, Result, Verdict, chief, refusers
+from tests.verdicts import NAMES_ONLY, PROVED, REFUSED, UNSURE, Result, Verdict, chief, closures_of, refusers
 from tests.wrong_bodies import OTHERWISE, UNSAID, Trials, all_edits, due, parts_of
 
 CURSOR = "cdr_core::cursor::Cursor::"
@@ -101,6 +101,73 @@ class OfChecks(unittest.TestCase):
                            ("ensures `gone`", OTHERWISE), ("ensures `ok`, ensures `full`", OTHERWISE)):
             edit = dataclasses.replace(self.EDIT, refused_by=said)
             self.assertEqual(Trials.compared(trials, edit, seen).kind, kind, said)
+
+
+class OfClosures(unittest.TestCase):
+    """What a check says of an edit of `lr_server_lost`, which calls `Slot::server` with a closure."""
+
+    EDIT = Edit("lemonrudder", "src/exports/server.rt", "lr_server_lost", "loses_none", "it loses none",
+                [Pair("src/exports/server.rt", "1", "2")])
+    MODULE = "lemonrudder::exports::server"
+    OPEN = "no proof: expected answers in ./proofs/a.antt; `search` did not prove `returns`"
+    CALLS = f"it calls `{MODULE}::fn::lr_server_lost::server+FnMut::call_mut`, which is not proved"
+    UNPROVED = f"fn {MODULE}::lr_server_lost: no proof: {CALLS}"
+    OF_CLOSURE = ("ensures of closure `server`",)
+
+    def judged(self, *lines, is_alone=True):
+        return Verdict("lemonrudder", 1, "\n".join([*lines, "logic=not-proved"])).judge(self.EDIT, is_alone)
+
+    def goal(self, name):
+        line = functions_of("lemonrudder", "src/exports/server.rt")["lr_server_lost"].first + 4
+        return f"note: src/exports/server.rt:{line}:37: it is not proved that it holds (`{name}`); it may be false"
+
+    def closure(self, said, name="server", function="lr_server_lost"):
+        return f"fn {self.MODULE}::fn::{function}::{name}: {said}"
+
+    def test_its_ensures(self):
+        calls = self.closure("no proof: it calls `a`, which is not proved", "server+FnMut::call_mut")
+        lines = [self.goal("returns"), self.closure(self.OPEN), calls, self.UNPROVED]
+        found = self.judged(*lines, is_alone=False)
+        self.assertEqual((found.kind, found.by), (REFUSED, self.OF_CLOSURE))
+        self.assertEqual(self.judged(*lines[1:]).by, self.OF_CLOSURE)
+        for goal, by in (("returns-clause-told", "ensures `told` of closure `server`"),
+                         ("returns-in_Ok-clause-2", "ensures 2 of closure `server`"),
+                         ("lost-requires-clause-idle", "requires `idle` of lost"),
+                         ("overflow_add-x", "safety: no overflow")):
+            self.assertEqual(self.judged(self.goal(goal), *lines[1:]).by, (by,), goal)
+
+    def test_its_answers(self):
+        at = "./proofs/exports/server/fn/lr_server_lost/server/Answers.antt:5:13: error: "
+        lines = [self.closure("not proved"), self.UNPROVED]
+        self.assertEqual(self.judged(at + "`returns`: `search`: no proof of `a`", *lines).by, self.OF_CLOSURE)
+        self.assertEqual(self.judged(at + "`goal.returns` has no `returns-then`", *lines).kind, NAMES_ONLY)
+
+    def test_beside_the_function(self):
+        """The goals of each stand in front of its line, in the lines of the function."""
+        closure = [self.goal("returns"), self.closure(self.OPEN)]
+        function = [self.goal("server-requires"), f"fn {self.MODULE}::lr_server_lost: not proved; {self.CALLS}"]
+        self.assertEqual(self.judged(*closure, *function).by, (*self.OF_CLOSURE, "requires of server"))
+        function[0] = self.goal("returns")
+        self.assertEqual(self.judged(*closure, *function).by, ("ensures 1", *self.OF_CLOSURE))
+        self.assertEqual(self.judged(self.closure("proved where its callers give what it asks"), *function).by,
+                         ("ensures 1",))
+
+    def test_that_is_not_called(self):
+        function = f"fn {self.MODULE}::lr_server_lost: proved"
+        self.assertEqual(self.judged(self.goal("returns"), self.closure(self.OPEN), function).by, self.OF_CLOSURE)
+        self.assertEqual(self.judged(self.closure("proved"), function).kind, PROVED)
+
+    def test_unsure(self):
+        """Another function's closure, and one whose contract itself is refused, tell nothing."""
+        for line in (self.closure(self.OPEN, function="lr_server_lost_all"),
+                     self.closure("no proof: antt did not admit its contract or its `statement`: help: fix it")):
+            self.assertEqual(self.judged(line, self.UNPROVED).kind, UNSURE, line)
+
+    def test_names(self):
+        """As a check prints them: of a method too, and the second that a call takes."""
+        known = ["t::fn::Pair::five::apply", "t::fn::Pair::five::apply+2", "t::fn::five::apply", "t::Pair::five"]
+        self.assertEqual(closures_of("t::Pair::five", known), {known[0]: "apply", known[1]: "apply+2"})
+        self.assertEqual(closures_of("t::five", known), {known[2]: "apply"})
 
 
 class OfTurns(unittest.TestCase):

@@ -66,6 +66,25 @@ def symbols_of(crate, function, known):
         name for name in known if name.endswith(f"::{owner}::{function.name}")]
 
 
+def closures_of(symbol, known):
+    """The closures of a function, of the names in the lines of a check, each with its own name: that of the closure
+    `call` in `serving::Serving::part` is `serving::fn::Serving::part::call`."""
+    fronts = {it: it.replace("::fn::", "::", 1) for it in known if "::fn::" in it}
+    return {it: front[len(symbol) + 2:] for it, front in fronts.items() if front.startswith(f"{symbol}::")}
+
+
+def goals_in(lines):
+    """The goals of a check that are open: path, line, text, and the function in front of whose line they stand."""
+    found = []
+    for line in lines:
+        goal, function = OPEN_GOAL.match(line), OF_FUNCTION.fullmatch(line)
+        found += [goal.groups()] if goal else []
+        if function:
+            yield from ((*it, function[1]) for it in found)
+            found = []
+    yield from ((*it, None) for it in found)
+
+
 def clauses_of(crate, function):
     """The clauses of a function's contract, as they stand: pairs of a word and a name, if it has one. Where it has none
     of its own, those of its trait."""
@@ -101,7 +120,7 @@ class Verdict:
         self.functions = dict(found.groups() for found in map(OF_FUNCTION.fullmatch, lines) if found)
         # (a check that ended has a verdict on the whole in its last line)
         self.ended = lines[-1].startswith("logic=") and bool(self.functions)
-        self.goals = [found.groups() for found in map(OPEN_GOAL.match, lines) if found]
+        self.goals = [*goals_in(lines)]
         self.answers = [found.groups() for found in map(FALSE_ANSWER.match, lines) if found]
         self.errors = [found.groups() for found in map(ERROR.match, lines) if found]
 
@@ -111,19 +130,21 @@ class Verdict:
         return any(path == function.path and function.top <= int(line) - 1 <= function.last
                    for path, line in self.errors)
 
-    def why(self, symbol, function, cycle):
-        """The open goals and the false answers of a function, the telling ones first, and how many tell. The answers
-        of a cycle of calls stand in one place, and their goals begin with the function's name."""
-        parts = symbol.split("::")[1:]
+    def why(self, symbol, function, cycle, closure=None):
+        """The open goals and the false answers of a function, or of a closure in it, the telling ones first, and how
+        many tell. Those of a cycle's answers stand in one place, and begin with the function's name."""
+        parts = (closure or symbol).split("::")[1:]
         places = {"/".join(parts)}
-        goals = [what for path, line, what in self.goals
-                 if path == function.path and function.top <= int(line) - 1 <= function.last]
+        closures = closures_of(symbol, self.functions)
+        goals = [what for path, line, what, of in self.goals
+                 if path == function.path and function.top <= int(line) - 1 <= function.last
+                 and (of if of in closures else None) == closure]
         answers = [what for at, what in self.answers if at in places]
         if cycle:
             places = {"/".join([*parts[:count], f"+{cycle}"]) for count in range(len(parts))}
             answers += [what for at, what in self.answers if at in places and what.startswith(f"`{function.name}-")]
         telling = goals + [what for what in answers if not OF_NAMES.search(what)]
-        telling = telling or UNFOUND.findall(self.functions[symbol])
+        telling = telling or UNFOUND.findall(self.functions[closure or symbol])
         return telling + answers, len(telling)
 
     def judge(self, edit, is_alone):
@@ -138,17 +159,26 @@ class Verdict:
 
     def judged(self, symbol, function):
         line = self.functions[symbol]
-        if line.startswith("proved"):
+        # (what a closure in the function breaks, the function breaks)
+        closures = {it: name for it, name in closures_of(symbol, self.functions).items()
+                    if OPEN.match(self.functions[it])}
+        if not closures and line.startswith("proved"):
             return Result(PROVED, "its function is still proved")
-        if not OPEN.match(line):
+        if not closures and not OPEN.match(line):
             return Result(UNSURE, line)
         cycle = cycle_of(self.crate, function)
         cycle = cycle[1] if cycle[0] == "cycle" else None
-        why, count = self.why(symbol, function, cycle)
+        why, count = self.why(symbol, function, cycle) if OPEN.match(line) else ([], 0)
+        goals = [goal_in(it).removeprefix(f"{function.name}-" if cycle else "") for it in why[:count]]
+        inside = []
+        for closure, name in closures.items():
+            more, number = self.why(symbol, function, None, closure)
+            inside += [(name, goal_in(it)) for it in more[:number]]
+            why, count = why[:count] + more[:number] + why[count:] + more[number:], count + number
         if not count:
             return Result(NAMES_ONLY, short(why[0] if why else line))
-        goals = [goal_in(it).removeprefix(f"{function.name}-" if cycle else "") for it in why[:count]]
-        return Result(REFUSED, short(why[0]), tuple(refusers(goals, clauses_of(self.crate, function), function)))
+        by = refusers(goals, clauses_of(self.crate, function), function, inside)
+        return Result(REFUSED, short(why[0]), tuple(by))
 
 
 def short(text):
@@ -162,10 +192,21 @@ def goal_in(text):
     return name[1] if name else ""
 
 
-def refusers(goals, clauses, function):
-    """What refuses a body whose goals are open: the clauses that it breaks, in order, what calls are owed, the rest."""
+def refusers(goals, clauses, function, inside=()):
+    """What refuses a body whose goals are open: the clauses that it breaks, in order, and those of its closures, what
+    calls are owed, the rest. The goals of closures are pairs of the closure's name and the goal."""
     found = {refuser(goal, [name for word, name in clauses if word == "ensures"], function) for goal in goals}
+    found |= {refuser_inside(name, goal, function) for name, goal in inside}
     return [text for _, _, text in sorted(found)]
+
+
+def refuser_inside(closure, goal, function):
+    """What refuses a body with an open goal of a closure, after its rank and place."""
+    if not re.match(r"returns\b", goal):
+        return refuser(goal, [], function)
+    clause = re.search(r"-clause-(\w+)$", goal)
+    which = "" if not clause else f" {clause[1]}" if clause[1].isdigit() else f" `{clause[1]}`"
+    return 1, 0, f"ensures{which} of closure `{closure}`"
 
 
 def chief(refused_by):
@@ -189,14 +230,14 @@ def refuser(goal, ensures, function):
             return 0, at - 1, f"ensures `{ensures[at - 1]}`" if ensures[at - 1] else f"ensures {at}"
         return 0, 0, "ensures" if ensures else f"ensures of {owner(function)}"
     if safety:
-        return 3, 0, f"safety: {safety}"
+        return 4, 0, f"safety: {safety}"
     if requires:
-        return 1, 0, f"requires `{name}` of {requires[1]}" if name else f"requires of {requires[1]}"
+        return 2, 0, f"requires `{name}` of {requires[1]}" if name else f"requires of {requires[1]}"
     if re.match(r"(invariant-)?loop\b.*-(init|preserved)|invariant-", goal):
-        return 2, 0, "the invariant of a loop"
+        return 3, 0, "the invariant of a loop"
     if goal.startswith("invariant_of-"):
-        return 2, 1, f"the invariant `{name}`" if name else "the invariant of a value"
-    return 4, 0, f"goal `{goal}`" if goal else "what a proof file says"
+        return 3, 1, f"the invariant `{name}`" if name else "the invariant of a value"
+    return 5, 0, f"goal `{goal}`" if goal else "what a proof file says"
 
 
 def owner(function):

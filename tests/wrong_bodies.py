@@ -12,10 +12,10 @@ An edit is refused where the line of its own function says that goals of its own
 tell, the edit is tried alone; where its function is proved, the contract is too weak, and this fails.
 
 What refuses an edit follows from the names of the goals of its function that are open: the clauses that it breaks, in
-the order of the contract; or else those that it owes to what it calls, or invariants, or safety. The line `refused by`
-names them; --write tries those that lack it, and adds it to each file as soon as it is known. Each that it names has to
-refuse the edit again: an edit that is refused by others alone fails, and so does one that is refused only since a proof
-file cites a name that the edit took away. So does one without the line.
+the order of the contract, and those of a closure in it; or else those that it owes to what it calls, or invariants, or
+safety. The line `refused by` names them; --write tries those that lack it, and adds it to each file as soon as it is
+known. Each that it names has to refuse the edit again: an edit that is refused by others alone fails, and so does one
+that is refused only since a proof file cites a name that the edit took away. So does one without the line.
 
 --turns tries those of crates whose sources or edits changed since the branch left origin's main (or since the last
 commit), then those of crates above one whose specs changed, and then one of sixteen groups, by the number of commits.

@@ -2614,6 +2614,21 @@ class Bounds(Case):
         self.assertIn("is turned away", text)
         self.assertIn("it was idle", text)
 
+    def test_connections_that_are_lost(self):
+        """One that memory was too short to answer on, which the engine alone knows, is closed by the next sweep."""
+        async def main():
+            server, client = await self.pair({"get": ("", "l", lambda: 1)}, idle_timeout=None)
+            async with server, client:
+                reader, writer = await asyncio.open_connection(client.host, client.port)
+                await self.drained(server, 1)
+                number, = server._connections
+                server._engine.lost(number)
+                self.assertEqual(await reader.read(), b"")
+                await self.drained(server, 0)
+                writer.close()
+        with mock.patch.object(_server, "_SWEEP", 0.01):
+            self.run_async(main())
+
     def test_what_is_told(self):
         """There is a line for each request that is refused and each connection that ends, and a count."""
         async def main():

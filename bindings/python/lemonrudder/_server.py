@@ -331,10 +331,14 @@ class Server:
                 self._lines.write(connection, level, "a request is refused on %s: %s", connection, why)
 
     def _sweep(self) -> None:
-        """Forgets what has expired, and says goodbye where nothing was said for long."""
+        """Forgets what has expired, ends connections that memory was too short to answer on, and says goodbye where
+        nothing was said for long."""
         idle = self.idle_timeout
         self._sweeping = self._loop.call_later(_SWEEP if idle is None else min(_SWEEP, idle / 4), self._sweep)
         self._engine.tick()
+        for connection in list(self._connections.values()):
+            if self._engine.is_closed(connection.number):
+                connection.end()
         if idle is not None:
             least = self._loop.time() - idle
             for connection in [one for one in self._connections.values() if one.heard < least and one.is_idle]:

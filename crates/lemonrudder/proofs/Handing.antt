@@ -1,5 +1,5 @@
 -- What comes of an outcome: by what waits, by the octets that are read, and by the numbers that name its parts.
-use Rattle.std.proofs.Common.{◌≡◌, ◌==◌, ◌∙◌, ◌↔◌, if◌then◌else◌, Bool, true, false, ℕ, List, [], ◌∷◌, length, Option, Some, None, IsSome, IsTrue, Result, Ok, Err, Bor, Vec, Global, map, inl, inr, ap, refl, subst, sym}
+use Rattle.std.proofs.Common.{◌≡◌, ◌==◌, ◌∙◌, ◌↔◌, ◌⊎◌, ◌<◌, if◌then◌else◌, Bool, true, false, ℕ, List, [], ◌∷◌, length, Option, Some, None, IsSome, IsTrue, Result, Ok, Err, Bor, Vec, Global, map, inl, inr, ap, refl, subst, sym, arith}
 use Rattle.std.specs.Result.{IfOk}
 use Rattle.cdr_core.specs.declared.order.Order.{Order}
 use Rattle.cdr_core.specs.declared.values.Val.{Val}
@@ -26,7 +26,8 @@ use Rattle.lemonrudder.specs.Naming.{or_range, order_named}
 use Rattle.lemonrudder.specs.Outcomes.{Answers, AreRead, AreValuesOf, ByName, CanBe, HandsIn, IsBody, Raises, exception_octets, outcome_read}
 use Rattle.giop_core.specs.Items.{item_at}
 use Rattle.lemonrudder.specs.declared.serving.replying.Said.{Said}
-use Rattle.lemonrudder.specs.Replying.{AreLent, AreSaid, Contexts, IsSaid}
+use Rattle.lemonrudder.specs.RawCalls.{AreNoContexts, IsShortFor}
+use Rattle.lemonrudder.specs.Replying.{AreLent, AreSaid, Contexts, IsSaid, IsWhyUnsaid}
 use Rattle.lemonrudder.specs.Serves.{ByFound, ByWaiting}
 use Rattle.lemonrudder.specs.Spelled.{AreThose, AreValues}
 use Rattle.lemonrudder.specs.Tickets.{named_by, ticket_of, waiting_by}
@@ -71,11 +72,11 @@ open_by ticket None w is = absurd cc
 open_by ticket (Some x) w is = let same = waits_by (ticket_of x.number == ticket) x w is in ap (λ (v : Awaited). v.number) same
 
 -- what was read and has no other fault
-pub read-is : (types : Forms) (order : Order) (octets : List ℕ) (r : Result (Vec Val Global) Refusal) → IfOk r (λ v. SpellsMembers types order (values_of v.items) 0 octets) → ((vs : Values) → SpellsMembers types order vs 0 octets → AreThose vs r)
+pub read-is : (types : Forms) (order : Order) (octets : List ℕ) (r : Result (Vec Val Global) Refusal) → AreValues types order octets → IfOk r (λ v. SpellsMembers types order (values_of v.items) 0 octets) → ((vs : Values) → SpellsMembers types order vs 0 octets → AreThose vs r)
     → AreRead (Some types) order octets (outcome_read r)
-read-is types order octets (Ok v) spelled only = (spelled, only)
-read-is types order octets (Err refusal.Memory) spelled only = inl refl
-read-is types order octets (Err e) spelled only = inr (refl, λ vs there. let same = only vs there in absurd cc)
+read-is types order octets (Ok v) are spelled only = (spelled, only)
+read-is types order octets (Err refusal.Memory) are spelled only = inl (refl, are)
+read-is types order octets (Err e) are spelled only = inr (refl, λ vs there. let same = only vs there in absurd cc)
 
 pub read-none : (types : Option Forms) (order : Order) (octets : List ℕ) → types ≡ None → AreRead types order octets (Err refusal.Outcome)
 read-none types order octets none = subst (λ ts. AreRead ts order octets (Err refusal.Outcome)) (sym none) refl
@@ -97,7 +98,7 @@ body-unwritable id (Some types) order octets v is cannot = inr (refl, λ vs are.
 -- .. or memory is short for it
 pub body-short : (id : List ℕ) (types : Option Forms) (order : Order) (octets : List ℕ) (v : Vec Val Global) → AreRead types order octets (Ok v) → IsBody id types order octets (Err refusal.Memory)
 body-short id None order octets v is = absurd is
-body-short id (Some types) order octets v is = inl refl
+body-short id (Some types) order octets v is = inl (refl, (values_of v.items, is.0))
 
 pub body-is : (id : List ℕ) (types : Option Forms) (order : Order) (octets : List ℕ) (v : Vec Val Global) (body : Vec ℕ Global) → AreRead types order octets (Ok v) → AreWritable (exception_body id (values_of v.items)) → body.items ≡ exception_octets order id (values_of v.items)
     → IsBody id types order octets (Ok body)
@@ -107,7 +108,7 @@ body-is id (Some types) order octets v body is can written = (values_of v.items,
 -- there is no body of an exception
 pub raises-none : (ticket : ℕ) (f : Found) (id : List ℕ) (types : Option Forms) (order : Order) (octets : List ℕ) (s : Serving) (e : Refusal) → IsBody id types order octets (Err e) → Raises ticket f id types order octets s s (Err e)
 raises-none ticket f id None order octets s e is = (ap Err is, refl)
-raises-none ticket f id (Some types) order octets s e (inl short) = let said : ◌≡◌ {A = Result ℕ Refusal} (Err e) (Err refusal.Memory) = ap Err short in (λ vs are. inl (said, refl), λ none. inl (said, refl))
+raises-none ticket f id (Some types) order octets s e (inl (short, are)) = let said : ◌≡◌ {A = Result ℕ Refusal} (Err e) (Err refusal.Memory) = ap Err short in (λ vs members. inl (said, refl), λ none. inl (are, (said, refl)))
 raises-none ticket f id (Some types) order octets s e (inr (is, none)) = let said : ◌≡◌ {A = Result ℕ Refusal} (Err e) (Err refusal.Outcome) = ap Err is in (λ vs are. absurd (none vs are), λ _. inr (said, refl))
 
 -- there is one, which was handed in
@@ -139,7 +140,7 @@ short-said said (Err e) lent never = short-err said e lent
 -- there is no body of an exception to be told
 pub tells-none : (f : Found) (id : List ℕ) (types : Option Forms) (order : Order) (octets room : List ℕ) (s : Serving) (e : Refusal) → IsBody id types order octets (Err e) → TellsException f id types order octets room room s (Err e)
 tells-none f id None order octets room s e is = (ap Err is, refl)
-tells-none f id (Some types) order octets room s e (inl short) = inl (ap Err short, refl)
+tells-none f id (Some types) order octets room s e (inl (short, are)) = inl (are, (ap Err short, refl))
 tells-none f id (Some types) order octets room s e (inr (is, none)) = inr ((λ vs are. absurd (none vs are)), λ _. (ap Err is, refl))
 
 -- .. or there is one
@@ -148,6 +149,15 @@ pub tells-it : (f : Found) (id : List ℕ) (types : Option Forms) (order : Order
 tells-it f id None order octets room new s r body is told = absurd is
 tells-it f id (Some types) order octets room new s r body is told =
     inr ((λ vs are. subst (λ os. TellsIfCan f order os room new s r) (is.3 ∙ ap (exception_octets order id) (is.2 vs are)) told), λ none. absurd (none is.0 is.1))
+
+-- why octets are not kept, of which there are some
+some-octets : (octets : List ℕ) (b : Bool) → b ≡ (length octets == 0) → b ≡ false → 0 < length octets
+some-octets [] b counts some = absurd cc
+some-octets (octet ∷ octets) b counts some = omega arith
+
+pub unsaid-by : (order : Order) (octets : List ℕ) (e : Refusal) (b : Bool) → b ≡ (length octets == 0) → b ≡ false → AreNoContexts order octets e ⊎ IsShortFor order octets e → IsWhyUnsaid order octets e
+unsaid-by order octets e b counts some (inl none) = inl none
+unsaid-by order octets e b counts some (inr short) = inr (short.0, some-octets octets b counts some, short.1, short.2)
 
 -- octets are kept for a ticket, of which there are some
 pub said-is : (ticket : ℕ) (order : Order) (octets : List ℕ) (x : Said) (b : Bool) → b ≡ (length octets == 0) → b ≡ false → x.ticket ≡ ticket → x.order ≡ order → x.octets.items ≡ octets → IsSaid ticket order octets (Some x)

@@ -1,5 +1,6 @@
 -- Calls that a client makes, takes up again or redirects, in the words of what it stands for.
-use Rattle.std.proofs.Common.{◌≡◌, ◌∙◌, ◌↔◌, inl, inr, ℕ, suc, ℤ, Bool, true, false, IsTrue, List, ◌++◌, Some, Result, Ok, Err, Vec, Global, refl, subst, sym}
+use Rattle.std.proofs.Common.{◌≡◌, ◌∙◌, ◌↔◌, inl, inr, ℕ, suc, ℤ, Bool, true, false, IsTrue, List, ◌++◌, Some, FitsSigned, Result, Ok, Err, Vec, Global, refl, subst, sym}
+use Rattle.std.specs.Int.{w32}
 use Rattle.std.proofs.lemmas.Bool.{false≢true}
 use Rattle.cdr_core.specs.declared.fault.Kind.{Kind}
 use Rattle.cdr_core.specs.declared.fault.Kind.TheVariants as fault
@@ -78,7 +79,11 @@ client_takes now expiration q s c octets xs n are number taken stands out = (
 pub client_leaves : (call : ℤ) (now expiration : ℕ) (q : Question) (s t : Calling) (id : ℕ) (xs : List Val) (f : RecallError) (r : Result ℕ Refusal) → call_numbered call ≡ Some id → AreAsked q (values_of xs)
     → ((m : Client) → FtStands s.client m → IsRecallError now id (call_of q.key q.operation xs expiration) m f) → Stays s t → r ≡ Err (refusal_of_recalling f) → OnRecall call now expiration q s t r
 client_leaves call now expiration q s t id xs f r number are why same gave =
-    subst (λ x. OnRecall call now expiration q s t x) (sym gave) (same, inr (inr (id, values_of xs, number, are, f, refl, λ x st. why x.client st.client)))
+    subst (λ x. OnRecall call now expiration q s t x) (sym gave) (same, inr (id, number, inr (values_of xs, are, f, refl, λ x st. why x.client st.client)))
+
+-- .. where nothing can be asked so
+pub client_unasked : (call : ℤ) (now expiration : ℕ) (q : Question) (s : Calling) (id : ℕ) (e : Refusal) (r : Result ℕ Refusal) → call_numbered call ≡ Some id → IsWhyUnasked q e → r ≡ Err e → OnRecall call now expiration q s s r
+client_unasked call now expiration q s id e r number why gave = subst (λ x. OnRecall call now expiration q s s x) (sym gave) ((λ x st. st), inr (id, number, inl why))
 
 -- it is taken up again
 pub client_resumes : (call : ℤ) (now expiration : ℕ) (q : Question) (s : Calling) (c : FtClient) (octets : Vec ℕ Global) (id : ℕ) (xs : List Val) → call_numbered call ≡ Some id → AreAsked q (values_of xs)
@@ -96,9 +101,13 @@ client_resumes call now expiration q s c octets id xs number are taken stands ou
 )
 
 -- a call is not redirected
-pub client_unled : (call : ℤ) (q : Question) (s t : Calling) (xs : List Val) (f : RedirectError) (r : Result ℕ Refusal) → AreAsked q (values_of xs)
+pub client_unled : (call : ℤ) (q : Question) (s t : Calling) (xs : List Val) (f : RedirectError) (r : Result ℕ Refusal) → FitsSigned w32 call → AreAsked q (values_of xs)
     → ((m : Client) → FtStands s.client m → IsRedirectError call (call_of q.key q.operation xs) m f) → Stays s t → r ≡ Err (refusal_of_redirecting f) → OnRedirect call q s t r
-client_unled call q s t xs f r are why same gave = subst (λ x. OnRedirect call q s t x) (sym gave) (same, inr (inr (values_of xs, are, f, refl, λ x st. why x.client st.client)))
+client_unled call q s t xs f r fits are why same gave = subst (λ x. OnRedirect call q s t x) (sym gave) (same, inr (fits, inr (values_of xs, are, f, refl, λ x st. why x.client st.client)))
+
+-- .. where nothing can be asked so
+pub client_misled : (call : ℤ) (q : Question) (s : Calling) (e : Refusal) (r : Result ℕ Refusal) → FitsSigned w32 call → IsWhyUnasked q e → r ≡ Err e → OnRedirect call q s s r
+client_misled call q s e r fits why gave = subst (λ x. OnRedirect call q s s x) (sym gave) ((λ x st. st), inr (fits, inl why))
 
 -- it is
 pub client_redirects : (call : ℤ) (q : Question) (s : Calling) (c : FtClient) (xs : List Val) → AreAsked q (values_of xs)

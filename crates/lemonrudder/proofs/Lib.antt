@@ -11,6 +11,7 @@ mod Counts
 mod Declaring
 mod Doors
 mod Ended
+mod Ending
 mod Finding
 mod Handing
 mod Hosting

@@ -1,5 +1,6 @@
 -- Raw calls that a client makes, takes up again or by which it redirects one, in the words of what it stands for.
-use Rattle.std.proofs.Common.{◌≡◌, ◌≢◌, ◌∙◌, ◌⊎◌, inl, inr, ℕ, suc, ℤ, true, false, List, [], ◌++◌, Option, Some, Result, Ok, Err, Vec, Global, refl, ap, subst, sym}
+use Rattle.std.proofs.Common.{◌≡◌, ◌≢◌, ◌∙◌, ◌⊎◌, inl, inr, ℕ, suc, ℤ, true, false, List, [], ◌++◌, Option, Some, FitsSigned, Result, Ok, Err, Vec, Global, refl, ap, subst, sym}
+use Rattle.std.specs.Int.{w32}
 use Rattle.giop_core.specs.declared.header.Version.{Version}
 use Rattle.giop_core.specs.declared.request.ReplyWish.{ReplyWish}
 use Rattle.giop_core.specs.declared.request.ReplyWish.TheVariants as wish
@@ -18,8 +19,8 @@ use Rattle.lemonrudder.specs.declared.calling.raw.RawManner.{RawManner}
 use Rattle.lemonrudder.specs.declared.refusal.Refusal.{Refusal}
 use Rattle.lemonrudder.specs.declared.refusal.Refusal.TheVariants as refusal
 use Rattle.lemonrudder.specs.Calls.{Stays}
-use Rattle.lemonrudder.specs.Naming.{call_numbered}
-use Rattle.lemonrudder.specs.RawCalls.{AreContexts, AreNoContexts, IsRawAsked, IsRawManner, IsWhyUnaskedRaw, OnCallRaw, OnRecallRaw, OnRedirectRaw, RawQuestion, raw_asked, raw_in}
+use Rattle.lemonrudder.specs.Naming.{call_numbered, wish_named}
+use Rattle.lemonrudder.specs.RawCalls.{AreContexts, AreNoContexts, IsRawAsked, IsRawManner, IsShortFor, IsWhyUnaskedRaw, OnCallRaw, OnRecallRaw, OnRedirectRaw, RawQuestion, raw_asked, raw_in}
 use Rattle.lemonrudder.specs.Refusals.{refusal_of_raw_calling, refusal_of_raw_recalling, refusal_of_raw_redirecting}
 use Rattle.lemonrudder.proofs.Clients.{stands_after, stands_silent}
 
@@ -28,7 +29,7 @@ pub raw_is : (version : Version) (q : RawQuestion) (m : RawManner) (all : List (
 raw_is version q m all is are = ((is.0, is.1, are, refl), is.2)
 
 -- its octets are no service contexts
-pub no_contexts : (version : Version) (q : RawQuestion) (m : RawManner) (e : Refusal) → IsRawManner version q (Ok m) → AreNoContexts m.order q.contexts e ⊎ ((e ≡ refusal.Memory) × (q.contexts ≢ [])) → IsWhyUnaskedRaw version q e
+pub no_contexts : (version : Version) (q : RawQuestion) (m : RawManner) (e : Refusal) → IsRawManner version q (Ok m) → AreNoContexts m.order q.contexts e ⊎ IsShortFor m.order q.contexts e → IsWhyUnaskedRaw version q e
 no_contexts version q m e is why = inr (m.order, m.wish, is.1, is.2, why)
 
 module _ (now expiration : ℕ) (q : RawQuestion) (s t : Calling) (version : Version) (own : (m : Client) → FtStands s.client m → version ≡ m.version) where
@@ -36,8 +37,8 @@ module _ (now expiration : ℕ) (q : RawQuestion) (s t : Calling) (version : Ver
   pub call_misasked : (e : Refusal) (r : Result ℕ Refusal) → IsWhyUnaskedRaw version q e → Stays s t → r ≡ Err e → OnCallRaw now expiration q s t r
   call_misasked e r why same gave = subst (λ o. OnCallRaw now expiration q s t o) (sym gave) (same, λ x st. inl (subst (λ v. IsWhyUnaskedRaw v q e) (own x.client st.client) why))
 
-  pub recall_misasked : (call : ℤ) (e : Refusal) (r : Result ℕ Refusal) → IsWhyUnaskedRaw version q e → Stays s t → r ≡ Err e → OnRecallRaw call now expiration q s t r
-  recall_misasked call e r why same gave = subst (λ o. OnRecallRaw call now expiration q s t o) (sym gave) (same, λ x st. inr (inl (subst (λ v. IsWhyUnaskedRaw v q e) (own x.client st.client) why)))
+  pub recall_misasked : (call : ℤ) (id : ℕ) (e : Refusal) (r : Result ℕ Refusal) → call_numbered call ≡ Some id → IsWhyUnaskedRaw version q e → Stays s t → r ≡ Err e → OnRecallRaw call now expiration q s t r
+  recall_misasked call id e r number why same gave = subst (λ o. OnRecallRaw call now expiration q s t o) (sym gave) (same, λ x st. inr (id, number, inl (subst (λ v. IsWhyUnaskedRaw v q e) (own x.client st.client) why)))
 
   module _ (form : Raw) (are : IsRawAsked version q form) (asked : Call) (is : asked ≡ raw_asked q form expiration) where
     -- the client does not take it
@@ -49,7 +50,7 @@ module _ (now expiration : ℕ) (q : RawQuestion) (s t : Calling) (version : Ver
     pub raw_left : (call : ℤ) (id : ℕ) (f : RawRecallError) (r : Result ℕ Refusal) → call_numbered call ≡ Some id → ((m : Client) → FtStands s.client m → IsRawRecallError now id asked m f) → Stays s t → r ≡ Err (refusal_of_raw_recalling f)
         → OnRecallRaw call now expiration q s t r
     raw_left call id f r number why same gave = subst (λ o. OnRecallRaw call now expiration q s t o) (sym gave)
-        (same, λ x st. inr (inr (id, form, number, subst (λ v. IsRawAsked v q form) (own x.client st.client) are, f, refl, subst (λ c. IsRawRecallError now id c x.client f) is (why x.client st.client))))
+        (same, λ x st. inr (id, number, inr (form, subst (λ v. IsRawAsked v q form) (own x.client st.client) are, f, refl, subst (λ c. IsRawRecallError now id c x.client f) is (why x.client st.client))))
 
 module _ (now expiration : ℕ) (q : RawQuestion) (s : Calling) (version : Version) (own : (m : Client) → FtStands s.client m → version ≡ m.version) (form : Raw) (are : IsRawAsked version q form) (asked : Call) (is : asked ≡ raw_asked q form expiration) where
   -- it is taken
@@ -95,17 +96,17 @@ pub record AsksAnew (call : ℤ) (c k : FtClient) (a : Call) : Type 0 where
       → FtStands k (after (down m.limits) (Redirected call a.object_key) m)
   pub anew : (m : Client) → FtStands c m → FtStands k (record m { pending = asked_anew call a.object_key (in_place_of a.operation a.arguments a.form) m.pending })
 
-module _ (call : ℤ) (q : RawQuestion) (s : Calling) (version : Version) (own : (m : Client) → FtStands s.client m → version ≡ m.version) where
+module _ (call : ℤ) (q : RawQuestion) (s : Calling) (fits : FitsSigned w32 call) (wished : ¬ (wish_named q.wish ≡ Some wish.None)) (version : Version) (own : (m : Client) → FtStands s.client m → version ≡ m.version) where
   -- nothing can be asked in place of it
   pub redirect_misasked : (e : Refusal) (r : Result ℕ Refusal) → IsWhyUnaskedRaw version q e → r ≡ Err e → OnRedirectRaw call q s s r
-  redirect_misasked e r why gave = subst (λ o. OnRedirectRaw call q s s o) (sym gave) (λ x st. st, λ x st. inr (inl (subst (λ v. IsWhyUnaskedRaw v q e) (own x.client st.client) why)))
+  redirect_misasked e r why gave = subst (λ o. OnRedirectRaw call q s s o) (sym gave) (λ x st. st, λ x st. inr (fits, wished, inl (subst (λ v. IsWhyUnaskedRaw v q e) (own x.client st.client) why)))
 
   module _ (form : Raw) (are : IsRawAsked version q form) (replied : is_oneway form.wish ≡ false) (a : Call) (is : a ≡ raw_asked q form 0) where
     -- the client does not redirect it
     pub raw_unled : (t : Calling) (f : RawRedirectError) (r : Result ℕ Refusal) → ((m : Client) → FtStands s.client m → IsRawRedirectError call (λ e. record a { expiration = e }) m f) → Stays s t → r ≡ Err (refusal_of_raw_redirecting f)
         → OnRedirectRaw call q s t r
     raw_unled t f r why same gave = subst (λ o. OnRedirectRaw call q s t o) (sym gave)
-        (same, λ x st. inr (inr (form, subst (λ v. IsRawAsked v q form) (own x.client st.client) are, replied, f, refl, subst (λ (b : Call). IsRawRedirectError call (λ e. record b { expiration = e }) x.client f) is (why x.client st.client))))
+        (same, λ x st. inr (fits, wished, inr (form, subst (λ v. IsRawAsked v q form) (own x.client st.client) are, replied, f, refl, subst (λ (b : Call). IsRawRedirectError call (λ e. record b { expiration = e }) x.client f) is (why x.client st.client))))
 
     -- it does
     pub raw_redirected : (k : FtClient) → AsksAnew call s.client k a → OnRedirectRaw call q s (record s { client = k }) (Ok 0)

@@ -16,7 +16,8 @@ use Rattle.lemonrudder.specs.Outcomes.{AreMembers, AreResults, ByName, CanBe, ex
 use Rattle.lemonrudder.specs.Questions.{Tells, TellsNone}
 use Rattle.lemonrudder.specs.RawCalls.{AreContexts}
 use Rattle.lemonrudder.specs.Replying.{Contexts, IsSaid, IsWhyUnsaid}
-use Rattle.lemonrudder.specs.Serves.{ByFound, KeepsDue}
+use Rattle.lemonrudder.specs.Serves.{ByFound, KeepsDue, KeepsNotes}
+use Rattle.lemonrudder.specs.Spelled.{AreValues}
 use Rattle.lemonrudder.specs.Tickets.{named_by}
 
 -- a call by a ticket is refused where nothing that waits or is parked has it, and else does this by what has it
@@ -37,10 +38,10 @@ abbrev pub TellsIfCan : Found → Order → (body room new : List ℕ) → Servi
 TellsIfCan found order body room new s r =
     (CanBe found (raw UserException order body) s → Tells body room new r) × (¬ (CanBe found (raw UserException order body) s) → TellsNone refusal.Outcome room new r)
 
--- .. which raises one whose members are these octets; or memory is short
+-- .. which raises one whose members are these octets; or memory is short, which only values of its types take
 abbrev pub TellsException : Found → List ℕ → Option Forms → Order → (octets room new : List ℕ) → Serving → Result ℕ Refusal → Type 0
 TellsException found id None order octets room new s r = TellsNone refusal.Outcome room new r
-TellsException found id (Some types) order octets room new s r = TellsNone refusal.Memory room new r
+TellsException found id (Some types) order octets room new s r = (AreValues types order octets × TellsNone refusal.Memory room new r)
     ⊎ (((vs : Values) → AreMembers id types order octets vs → TellsIfCan found order (exception_octets order id vs) room new s r)
     × (((vs : Values) → ¬ (AreMembers id types order octets vs)) → TellsNone refusal.Outcome room new r))
 
@@ -55,7 +56,7 @@ OnException ticket id order octets room new s t r = ByName (order_named order) s
 -- service contexts are said for the replies that the next answer of a ticket makes due, and nothing else changes; or octets are none, or memory
 -- is short, and nothing has changed
 abbrev pub Says : ℕ → Order → List ℕ → Serving → Serving → Result ℕ Refusal → Type 0
-Says ticket order octets s t (Ok n) = (n ≡ 0) × ((all : Contexts) × AreContexts order all octets) × (t.engine ≡ s.engine) × KeepsDue s t × (t.setup ≡ record s.setup { said = t.setup.said }) × IsSaid ticket order octets t.setup.said
+Says ticket order octets s t (Ok n) = (n ≡ 0) × ((all : Contexts) × AreContexts order all octets) × (t.engine ≡ s.engine) × KeepsDue s t × KeepsNotes s t × (t.setup ≡ record s.setup { said = t.setup.said }) × IsSaid ticket order octets t.setup.said
 Says ticket order octets s t (Err e) = (t ≡ s) × IsWhyUnsaid order octets e
 
 -- .. of a request that waits or is parked

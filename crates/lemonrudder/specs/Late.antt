@@ -11,12 +11,13 @@ use Rattle.ft_orb.specs.declared.events.Note.TheVariants.{Memory, Refused}
 use Rattle.ft_orb.specs.declared.parked.Waiter.{Waiter}
 use Rattle.ft_orb.specs.Carrying.{asker_in, reply_if, unless_failed}
 use Rattle.ft_orb.specs.Bounds.{StopsWhereDue, fed_in, piece_in}
-use Rattle.ft_orb.specs.Engines.{Awaited, EndsHeard}
+use Rattle.ft_orb.specs.Engines.{Awaited, EndsHeard, counts_in}
 use Rattle.ft_orb.specs.History.{Close, Event, Gone, Lost, Opened, Piece, completed, line}
 use Rattle.ft_orb.specs.Outputs.{is_going}
 use Rattle.ft_orb.specs.Parking.{AsksLate, EndsLate, FeedsLate, ResumesLate, Settings, Stays, put_at, still}
 use Rattle.ft_orb.specs.Requests.{Call}
 use Rattle.ft_orb.specs.Standing.{note_of, note_of_opening}
+use Rattle.ft_orb.specs.Tallies.{AreCounted}
 use Rattle.lemonrudder.specs.declared.serving.Serving.{Serving}
 use Rattle.lemonrudder.specs.Connected.{owed_in}
 
@@ -46,13 +47,14 @@ abbrev pub IsClosedLate : ℕ → Bool → Serving → Type 0
 IsClosedLate c closed s = WhereStays s (λ x held calls past waiting. closed ≡ not (is_going x.limits (line past c)))
     × WhereAsks s (λ x held calls past waiting moment octets written w. closed ≡ not (is_going x.limits (line (Piece w.connection moment octets ∷ past) c)))
 
--- octets of a connection are taken until as many are due as may be, and what is written is due after what was; where its stream ends
--- it has ended, for that reason
+-- octets of a connection are taken until as many are due as may be, and what is written is due after what was; what becomes of each arrival
+-- is counted; and where its stream ends it has ended, for that reason
 abbrev pub TakesLate : (c moment : ℕ) → List ℕ → Serving → Serving → Result Taken ServeError → Type 0
 TakesLate c moment octets s t f = WhereStays s (λ x held calls past waiting.
     FeedsLate families_offer x held calls past waiting c moment (piece_in octets f) (fed_in f) t.engine (owed_in s.connections c) (owed_in t.connections c)
     × StopsWhereDue x held past s.setup.terms.due (length (owed_in s.connections c)) c moment octets f
-    × IfOk (fed_in f) (λ fed. EndsHeard s.engine t.engine c x.limits (line past c) (piece_in octets f) fed))
+    × IfOk (fed_in f) (λ fed. EndsHeard s.engine t.engine c x.limits (line past c) (piece_in octets f) fed)
+    × AreCounted x held past c moment (piece_in octets f) (fed_in f) (counts_in s.engine) (counts_in t.engine))
 
 -- a moment has come
 abbrev pub TicksLate : ℕ → Serving → Serving → Type 0

@@ -11,6 +11,7 @@ use Rattle.cdr_core.specs.Value.{Values, values}
 use Rattle.cdr_core.specs.View.{forms_of, values_of}
 use Rattle.cdr_core.specs.Writing.{AreWritable, octets_of_all}
 use Rattle.giop_core.specs.Written.{exception_body}
+use Rattle.ft_log.specs.declared.outcome.RawStatus.{RawStatus}
 use Rattle.ft_log.specs.declared.outcome.RawStatus.TheVariants.{NoException, UserException}
 use Rattle.ft_log.specs.Performed.{Performed, raw, returned, system}
 use Rattle.ft_orb.specs.declared.error.ServeError.{ServeError}
@@ -31,9 +32,10 @@ use Rattle.lemonrudder.specs.Late.{AnswersLate}
 use Rattle.lemonrudder.specs.Naming.{completion_named, order_named, raw_status_named, system_name_named}
 use Rattle.lemonrudder.specs.Refusals.{refusal_of_serving}
 use Rattle.lemonrudder.specs.Replying.{AreCarried, AreSaid, Contexts, left_for, said_for}
-use Rattle.lemonrudder.specs.Serves.{ByCalled, ChangesDue, IsIdle, IsRefused, IsSame, KeepsCatalogue, KeepsTickets, NotesWhy, done_of, owed_on}
+use Rattle.lemonrudder.specs.Serves.{ByCalled, ChangesDue, EndsIfShort, IsIdle, IsRefused, IsSame, KeepsCatalogue, KeepsParked, NotesWhy, done_of, owed_on}
 use Rattle.lemonrudder.specs.Settling.{Settles}
 use Rattle.lemonrudder.specs.Spelled.{AreValues}
+use Rattle.lemonrudder.specs.Tallied.{one_answered}
 
 -- an outcome may be that of the request, which waits or is parked, as its operation is on offer now
 abbrev pub CanBe : Found → Performed → Serving → Type 0
@@ -47,7 +49,7 @@ Sends c outcome said s t o = (carried : Contexts) × AreCarried said carried (as
 -- an outcome of the request that waits, which came on a connection, is kept, if it is to be, and n is answered
 abbrev pub AnswersAsked : (c n : ℕ) → Performed → (said : Contexts) → Serving → Serving → Result ℕ Refusal → Type 0
 AnswersAsked c n outcome said s t r =
-    (o : Result (Unit {0}) ServeError) × (r ≡ done_of n refusal_of_serving o) × IsIdle t × ChangesDue c s t × KeepsCatalogue s t × KeepsTickets s t × Sends c outcome said s t o × AnswersLate c outcome s t o × NotesWhy c s t
+    (o : Result (Unit {0}) ServeError) × (r ≡ done_of n refusal_of_serving o) × IsIdle t × ChangesDue c s t × KeepsCatalogue s t × KeepsParked one_answered s t × Sends c outcome said s t o × AnswersLate c outcome s t o × NotesWhy c s t × EndsIfShort c s.engine t.engine o
 
 -- .. of one that waits or is parked
 abbrev pub Answers : Found → (n : ℕ) → Performed → (said : Contexts) → Serving → Serving → Result ℕ Refusal → Type 0
@@ -116,10 +118,15 @@ AreValuesOf (Some types) order octets = AreValues types order octets
 abbrev pub AreResults : Interface → Order → List ℕ → Type 0
 AreResults i order octets = AreValuesOf (result_types i) order octets
 
--- they are kept as they stand; others are no outcome
+-- octets are kept as they stand, as the body of a reply: not where they can't be that, for which no memory is taken
+abbrev pub HandsInBody : (ticket : ℕ) → Found → RawStatus → Order → List ℕ → Serving → Serving → Result ℕ Refusal → Type 0
+HandsInBody ticket found status order octets s t r = (¬ (CanBe found (raw status order octets) s) → IsRefused refusal.Outcome s t r)
+    × (CanBe found (raw status order octets) s → UnlessShortFor octets s t r (AnswersWith ticket found 0 (raw status order octets) s t r))
+
+-- .. of no exception, where they are results; others are no outcome
 abbrev pub HandsInResults : (ticket : ℕ) → Order → List ℕ → Serving → Serving → Result ℕ Refusal → Found → Awaited → Type 0
 HandsInResults ticket order octets s t r found w =
-    (AreResults (interface_at s w) order octets → UnlessShortFor octets s t r (HandsIn ticket found 0 (raw NoException order octets) s t r))
+    (AreResults (interface_at s w) order octets → HandsInBody ticket found NoException order octets s t r)
     × (¬ (AreResults (interface_at s w) order octets) → IsRefused refusal.Outcome s t r)
 
 -- results of the operation
@@ -135,12 +142,12 @@ abbrev pub AreMembers : List ℕ → Forms → Order → List ℕ → Values →
 AreMembers id types order octets vs = SpellsMembers types order vs 0 octets × AreWritable (exception_body id vs)
 
 -- An exception is raised whose members are these octets: that body is kept. Where there are no types, or the octets are no members, that is
--- no outcome.
+-- no outcome. Only values of its types take memory.
 abbrev pub Raises : (ticket : ℕ) → Found → List ℕ → Option Forms → Order → List ℕ → Serving → Serving → Result ℕ Refusal → Type 0
 Raises ticket found id None order octets s t r = IsRefused refusal.Outcome s t r
 Raises ticket found id (Some types) order octets s t r =
     ((vs : Values) → AreMembers id types order octets vs → UnlessShort s t r (HandsIn ticket found 0 (raw UserException order (exception_octets order id vs)) s t r))
-    × (((vs : Values) → ¬ (AreMembers id types order octets vs)) → UnlessShort s t r (IsRefused refusal.Outcome s t r))
+    × (((vs : Values) → ¬ (AreMembers id types order octets vs)) → (AreValues types order octets × IsRefused refusal.Memory s t r) ⊎ IsRefused refusal.Outcome s t r)
 
 -- an exception that the operation declares
 abbrev pub OnRaise : ℕ → List ℕ → ℕ → List ℕ → Serving → Serving → Result ℕ Refusal → Type 0
@@ -152,7 +159,7 @@ OnSystem ticket name minor completed s t r = ByName (system_name_named name) s t
 
 -- the body of a reply, as octets
 abbrev pub OnAnswerRaw : (ticket status order : ℕ) → List ℕ → Serving → Serving → Result ℕ Refusal → Type 0
-OnAnswerRaw ticket status order body s t r = ByName (raw_status_named status) s t r (λ n. ByName (order_named order) s t r (λ o. ByCalled ticket s t r (λ found w. UnlessShortFor body s t r (HandsIn ticket found 0 (raw n o body) s t r))))
+OnAnswerRaw ticket status order body s t r = ByName (raw_status_named status) s t r (λ n. ByName (order_named order) s t r (λ o. ByCalled ticket s t r (λ found w. HandsInBody ticket found n o body s t r)))
 
 -- CORBA 3.3 Part 1, 8.3: what an object that names these repository ids answers, if that is what is asked
 abbrev pub identity_by : Option (List (List ℕ)) → Call → Option Bool
@@ -181,19 +188,19 @@ outcome_read (Ok v) = Ok v
 outcome_read (Err refusal.Memory) = Err refusal.Memory
 outcome_read (Err e) = Err refusal.Outcome
 
--- what reading octets as values gave: all of them, and no others; or memory is short, or they are no values of the types
+-- what reading octets as values gave: all of them, and no others; or memory is short for these, or they are no values of the types
 abbrev pub AreRead : Option Forms → Order → List ℕ → Result (Vec Val Global) Refusal → Type 0
 AreRead None order octets (Ok v) = ⊥
 AreRead None order octets (Err e) = e ≡ refusal.Outcome
 AreRead (Some types) order octets (Ok v) = SpellsMembers types order (values_of v.items) 0 octets × ((vs : Values) → SpellsMembers types order vs 0 octets → values_of v.items ≡ vs)
-AreRead (Some types) order octets (Err e) = (e ≡ refusal.Memory) ⊎ ((e ≡ refusal.Outcome) × ((vs : Values) → ¬ (SpellsMembers types order vs 0 octets)))
+AreRead (Some types) order octets (Err e) = ((e ≡ refusal.Memory) × AreValues types order octets) ⊎ ((e ≡ refusal.Outcome) × ((vs : Values) → ¬ (SpellsMembers types order vs 0 octets)))
 
--- the body of an exception of such members, and of no others; or memory is short, or they are no members of one
+-- the body of an exception of such members, and of no others; or memory is short for these, or they are no members of one
 abbrev pub IsBody : List ℕ → Option Forms → Order → List ℕ → Result (Vec ℕ Global) Refusal → Type 0
 IsBody id None order octets (Ok body) = ⊥
 IsBody id None order octets (Err e) = e ≡ refusal.Outcome
 IsBody id (Some types) order octets (Ok body) = (vs : Values) × AreMembers id types order octets vs × ((us : Values) → AreMembers id types order octets us → vs ≡ us) × (body.items ≡ exception_octets order id vs)
-IsBody id (Some types) order octets (Err e) = (e ≡ refusal.Memory) ⊎ ((e ≡ refusal.Outcome) × ((vs : Values) → ¬ (AreMembers id types order octets vs)))
+IsBody id (Some types) order octets (Err e) = ((e ≡ refusal.Memory) × AreValues types order octets) ⊎ ((e ≡ refusal.Outcome) × ((vs : Values) → ¬ (AreMembers id types order octets vs)))
 
 -- a copy of octets; or memory is short, which none take
 abbrev pub IsCopy : List ℕ → Result (Vec ℕ Global) Refusal → Type 0

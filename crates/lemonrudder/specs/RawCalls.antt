@@ -1,12 +1,18 @@
 -- A raw call that a client makes, takes up again, or by which it redirects one: its body goes out as it came.
-use Rattle.std.specs.Prelude.{◌≡◌, ◌≢◌, ◌⊎◌, ℕ, suc, ℤ, ◌<◌, true, false, List, [], ◌∷◌, length, map, take, Some, None, Result, Ok, Err, FitsSigned}
+use Rattle.std.specs.Prelude.{◌≡◌, ◌⊎◌, ℕ, suc, ℤ, ◌<◌, true, false, List, [], ◌∷◌, length, map, take, Some, None, Result, Ok, Err, FitsSigned}
 use Rattle.std.specs.Borrow.{Bor}
 use Rattle.std.specs.Int.{w32}
 use Rattle.std.proofs.Common.{Vec, Global}
 use Rattle.cdr_core.specs.declared.fault.Fault.{Fault}
 use Rattle.cdr_core.specs.declared.order.Order.{Order}
+use Rattle.cdr_core.specs.Cursor.{Position}
+use Rattle.cdr_core.specs.Parts.{most}
+use Rattle.cdr_core.specs.Reading.{each_at, length_at, value_at}
 use Rattle.cdr_core.specs.Spelling.{IsClean, Spells}
 use Rattle.cdr_core.specs.Stopping.{Stops}
+use Rattle.cdr_core.specs.Value.{values}
+use Rattle.ior_core.specs.Grammar.{tagged}
+use Rattle.ior_core.specs.View.{lent_value}
 use Rattle.giop_core.specs.declared.header.Version.{Version}
 use Rattle.giop_core.specs.declared.request.ReplyWish.{ReplyWish}
 use Rattle.giop_core.specs.declared.request.ReplyWish.TheVariants as wish
@@ -56,10 +62,14 @@ AreNoContexts order (octet ∷ octets) e =
     ((f : Fault) × (e ≡ refusal_of_fault f) × Stops contexts order 0 (octet ∷ octets) f)
     ⊎ ((all : List (ℕ × List ℕ)) × (n : ℕ) × (e ≡ refusal.Value) × (n < length (octet ∷ octets)) × Spells contexts order (list_value all) 0 (take n (octet ∷ octets)))
 
--- octets are read as service contexts; or they are none, or memory is short, which none do not take
+-- .. or are some, for which memory is short
+abbrev pub IsShortFor : Order → List ℕ → Refusal → Type 0
+IsShortFor order octets e = (e ≡ refusal.Memory) × (all : List (ℕ × List ℕ)) × AreContexts order all octets × (0 < length all)
+
+-- octets are read as service contexts; or they are none, or memory is short
 abbrev pub ReadsContexts : Order → List ℕ → Result (Vec (ℕ × Bor (List ℕ)) Global) Refusal → Type 0
 ReadsContexts order octets (Ok v) = AreContexts order (map item_at v.items) octets
-ReadsContexts order octets (Err e) = AreNoContexts order octets e ⊎ ((e ≡ refusal.Memory) × (octets ≢ []))
+ReadsContexts order octets (Err e) = AreNoContexts order octets e ⊎ IsShortFor order octets e
 
 -- the order and the wish that its numbers name, of which a client of this version can ask
 abbrev pub IsNamed : Version → RawQuestion → Order → ReplyWish → Type 0
@@ -85,7 +95,7 @@ IsMisasked version q e = ((e ≡ refusal.Range) × ((order : Order) (wish : Repl
 -- why nothing can be asked so in this version: that, or its octets are no service contexts, or memory is short for those
 abbrev pub IsWhyUnaskedRaw : Version → RawQuestion → Refusal → Type 0
 IsWhyUnaskedRaw version q e = IsMisasked version q e
-    ⊎ ((order : Order) × (wish : ReplyWish) × IsNamed version q order wish × IsClean q.operation × (AreNoContexts order q.contexts e ⊎ ((e ≡ refusal.Memory) × (q.contexts ≢ []))))
+    ⊎ ((order : Order) × (wish : ReplyWish) × IsNamed version q order wish × IsClean q.operation × (AreNoContexts order q.contexts e ⊎ IsShortFor order q.contexts e))
 
 -- why a raw call is not made by a client: it can't be asked, or the client does not take it
 abbrev pub IsWhyNotRaw : (now expiration : ℕ) → RawQuestion → Client → Refusal → Type 0
@@ -98,12 +108,12 @@ OnCallRaw now expiration q s t (Ok n) = (x : Standing) → Stands s x → (r : R
     × (n ≡ suc x.client.last) × (is_taken now (raw_asked q r expiration) x.client ≡ true) × Stands t (happened (Called now (raw_asked q r expiration)) x)
 OnCallRaw now expiration q s t (Err e) = Stays s t × ((x : Standing) → Stands s x → IsWhyNotRaw now expiration q x.client e)
 
--- why a raw call of before is not taken up again by a client: its number is none, it can't be asked, or the client does not take it
+-- why a raw call of before is not taken up again by a client, the first that holds: its number is none, it can't be asked, or the client does
+-- not take it
 abbrev pub IsWhyUnresumedRaw : (call : ℤ) → (now expiration : ℕ) → RawQuestion → Client → Refusal → Type 0
 IsWhyUnresumedRaw call now expiration q m e = ((e ≡ refusal.Range) × (call_numbered call ≡ None))
-    ⊎ (IsWhyUnaskedRaw m.version q e
-    ⊎ ((id : ℕ) × (r : Raw) × (call_numbered call ≡ Some id) × IsRawAsked m.version q r
-    × (f : RawRecallError) × (e ≡ refusal_of_raw_recalling f) × IsRawRecallError now id (raw_asked q r expiration) m f))
+    ⊎ ((id : ℕ) × (call_numbered call ≡ Some id) × (IsWhyUnaskedRaw m.version q e
+    ⊎ ((r : Raw) × IsRawAsked m.version q r × (f : RawRecallError) × (e ≡ refusal_of_raw_recalling f) × IsRawRecallError now id (raw_asked q r expiration) m f)))
 
 -- a raw call of before is taken up again under its number, and sent where the client is connected; or it is not, and nothing has changed
 abbrev pub OnRecallRaw : (call : ℤ) → (now expiration : ℕ) → RawQuestion → Calling → Calling → Result ℕ Refusal → Type 0
@@ -121,18 +131,29 @@ pub record RedirectsRaw (call : ℤ) (q : RawQuestion) (r : Raw) (x : Standing) 
   pub anew : Stands t (record x { client = record x.client { pending = asked_anew call q.key (in_place_of q.operation (octets_body q.body) (raw r)) x.client.pending } })
   pub same : (p : Pending) → find_pending call x.client.pending ≡ Some p → p.call.form ≡ raw r → p.call.operation ≡ q.operation → p.call.arguments ≡ octets_body q.body → Stands t (happened (Redirected call q.key) x)
 
--- why a call is not redirected by a raw one: its number is none of 32 bits, or no reply is wished for; it can't be asked, or the client
--- does not redirect it
+-- why a call is not redirected by a raw one, the first that holds: its number is none of 32 bits, or no reply is wished for; it can't be asked;
+-- or the client does not redirect it
 abbrev pub IsWhyUnledRaw : (call : ℤ) → RawQuestion → Client → Refusal → Type 0
 IsWhyUnledRaw call q m e = ((e ≡ refusal.Range) × ((¬ (FitsSigned w32 call)) ⊎ (wish_named q.wish ≡ Some wish.None)))
-    ⊎ (IsWhyUnaskedRaw m.version q e
-    ⊎ ((r : Raw) × IsRawAsked m.version q r × (is_oneway r.wish ≡ false) × (f : RawRedirectError) × (e ≡ refusal_of_raw_redirecting f) × IsRawRedirectError call (raw_asked q r) m f))
+    ⊎ (FitsSigned w32 call × (¬ (wish_named q.wish ≡ Some wish.None)) × (IsWhyUnaskedRaw m.version q e
+    ⊎ ((r : Raw) × IsRawAsked m.version q r × (is_oneway r.wish ≡ false) × (f : RawRedirectError) × (e ≡ refusal_of_raw_redirecting f) × IsRawRedirectError call (raw_asked q r) m f)))
 
 abbrev pub OnRedirectRaw : (call : ℤ) → RawQuestion → Calling → Calling → Result ℕ Refusal → Type 0
 OnRedirectRaw call q s t (Ok n) = (n ≡ 0) × ((x : Standing) → Stands s x → (r : Raw) × RedirectsRaw call q r x t)
 OnRedirectRaw call q s t (Err e) = Stays s t × ((x : Standing) → Stands s x → IsWhyUnledRaw call q x.client e)
 
 -- Words of private functions.
+
+-- so many service contexts are passed over; or one has a fault
+abbrev pub PassesOver : ℕ → Result (Unit {0}) Fault → Position → Position → Type 0
+PassesOver n (Ok x) old new = (xs : List (ℕ × Bor (List ℕ))) × (length xs ≡ n) × (each_at (value_at tagged old.order) n old.place old.rest ≡ Ok (values (map lent_value xs), new.place, new.rest))
+PassesOver n (Err f) old new = each_at (value_at tagged old.order) n old.place old.rest ≡ Err f
+
+-- octets are service contexts, as many as their count says; or they are none
+abbrev pub AreJudged : Order → List ℕ → Result (Unit {0}) Refusal → Type 0
+AreJudged order octets (Ok x) = (n : ℕ) × (q : ℕ) × (more : List ℕ) × (xs : List (ℕ × Bor (List ℕ))) × (p : ℕ) × (length_at order 0 most 0 octets ≡ Ok (n, q, more)) × (length xs ≡ n)
+    × (each_at (value_at tagged order) n q more ≡ Ok (values (map lent_value xs), p, []))
+AreJudged order octets (Err e) = AreNoContexts order octets e
 
 -- how a raw call goes out that is asked in a manner, with service contexts
 abbrev pub raw_in : RawManner → List (ℕ × List ℕ) → Raw

@@ -44,9 +44,9 @@ abbrev pub IsSaid : ℕ → Order → List ℕ → Option Said → Type 0
 IsSaid ticket order [] said = said ≡ None
 IsSaid ticket order (octet ∷ octets) said = (x : Said) × (said ≡ Some x) × (x.ticket ≡ ticket) × (x.order ≡ order) × (x.octets.items ≡ octet ∷ octets)
 
--- why octets are not kept: they are no service contexts, or memory is short
+-- why octets are not kept: they are no service contexts, or they are, and memory is short
 abbrev pub IsWhyUnsaid : Order → List ℕ → Refusal → Type 0
-IsWhyUnsaid order octets e = AreNoContexts order octets e ⊎ ((e ≡ refusal.Memory) × (0 < length octets))
+IsWhyUnsaid order octets e = AreNoContexts order octets e ⊎ ((e ≡ refusal.Memory) × (0 < length octets) × (all : Contexts) × AreContexts order all octets)
 
 -- Words of private functions.
 

@@ -36,12 +36,12 @@ abbrev pub OnResend : (now : ℕ) → Calling → Calling → Result ℕ Refusal
 OnResend now s t (Ok n) = (n ≡ 0) × Becomes (happened (Resent now)) s t
 OnResend now s t (Err e) = (e ≡ refusal.Lost) × Becomes (λ x. record x { client = parted x.client }) s t × ((x : Standing) → Stands s x → says (Resent now) x.client ≢ [])
 
--- why a call of before is not taken up again: its number is none, it can't be asked, or the client does not take it
+-- why a call of before is not taken up again, the first that holds: its number is none, it can't be asked, or the client does not take it
 abbrev pub IsWhyUnresumed : (call : ℤ) → (now expiration : ℕ) → Question → Calling → Refusal → Type 0
 IsWhyUnresumed call now expiration q s e = ((e ≡ refusal.Range) × (call_numbered call ≡ None))
-    ⊎ (IsWhyUnasked q e
-    ⊎ ((id : ℕ) × (vs : Values) × (call_numbered call ≡ Some id) × AreAsked q vs
-    × (f : RecallError) × (e ≡ refusal_of_recalling f) × ((x : Standing) → Stands s x → IsRecallError now id (asked q vs expiration) x.client f)))
+    ⊎ ((id : ℕ) × (call_numbered call ≡ Some id) × (IsWhyUnasked q e
+    ⊎ ((vs : Values) × AreAsked q vs
+    × (f : RecallError) × (e ≡ refusal_of_recalling f) × ((x : Standing) → Stands s x → IsRecallError now id (asked q vs expiration) x.client f))))
 
 -- a call of before is taken up again under its number, and sent where the client is connected; or it is not, and nothing has changed
 abbrev pub OnRecall : (call : ℤ) → (now expiration : ℕ) → Question → Calling → Calling → Result ℕ Refusal → Type 0
@@ -65,11 +65,11 @@ pub record Redirects (call : ℤ) (q : Question) (vs : Values) (x : Standing) (t
   pub anew : Stands t (record x { client = record x.client { pending = asked_anew call q.key (in_place_of q.operation vs typed) x.client.pending } })
   pub same : (p : Pending) → find_pending call x.client.pending ≡ Some p → p.call.form ≡ typed → p.call.operation ≡ q.operation → p.call.arguments ≡ vs → Stands t (happened (Redirected call q.key) x)
 
--- why a call is not redirected: its number is none of 32 bits, it can't be asked, or the client does not redirect it
+-- why a call is not redirected, the first that holds: its number is none of 32 bits, it can't be asked, or the client does not redirect it
 abbrev pub IsWhyUnled : (call : ℤ) → Question → Calling → Refusal → Type 0
 IsWhyUnled call q s e = ((e ≡ refusal.Range) × (¬ (FitsSigned w32 call)))
-    ⊎ (IsWhyUnasked q e
-    ⊎ ((vs : Values) × AreAsked q vs × (f : RedirectError) × (e ≡ refusal_of_redirecting f) × ((x : Standing) → Stands s x → IsRedirectError call (asked q vs) x.client f)))
+    ⊎ (FitsSigned w32 call × (IsWhyUnasked q e
+    ⊎ ((vs : Values) × AreAsked q vs × (f : RedirectError) × (e ≡ refusal_of_redirecting f) × ((x : Standing) → Stands s x → IsRedirectError call (asked q vs) x.client f))))
 
 abbrev pub OnRedirect : (call : ℤ) → Question → Calling → Calling → Result ℕ Refusal → Type 0
 OnRedirect call q s t (Ok n) = (n ≡ 0) × (vs : Values) × AreAsked q vs × ((x : Standing) → Stands s x → Redirects call q vs x t)

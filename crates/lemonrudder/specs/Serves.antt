@@ -4,6 +4,8 @@ use Rattle.std.specs.Int.{from_bool}
 use Rattle.std.specs.Ordering.{nat_cmp}
 use Rattle.std.specs.BTreeSet.{contains}
 use Rattle.ft_log.specs.Kept.{unexpired}
+use Rattle.ft_orb.specs.declared.counts.Counts.{Counts}
+use Rattle.ft_orb.specs.declared.engine.Engine.{Engine}
 use Rattle.ft_orb.specs.declared.engine.Fed.TheVariants as fed
 use Rattle.ft_orb.specs.declared.engine.Taken.{Taken}
 use Rattle.ft_orb.specs.declared.engine.Taken.TheVariants as taken
@@ -11,11 +13,11 @@ use Rattle.ft_orb.specs.declared.ending.Ending.{Ending}
 use Rattle.ft_orb.specs.declared.ending.Ending.TheVariants.{GivenUp}
 use Rattle.ft_orb.specs.declared.error.ConnectError.{ConnectError}
 use Rattle.ft_orb.specs.declared.error.ServeError.{ServeError}
-use Rattle.ft_orb.specs.Engines.{Awaited, EndsClosed, EndsLast, EndsShort, IsFit, IsLeftAt, IsNumbered, asks_in, clock_in, ending_in, kept_in, waits_in}
+use Rattle.ft_orb.specs.Engines.{AreEndings, Awaited, EndsClosed, EndsLast, EndsShort, IsFit, IsLeftAt, IsNumbered, asks_in, clock_in, counts_in, ending_in, kept_in, waits_in}
 use Rattle.ft_objects.specs.Families.{families_offer}
 use Rattle.ft_orb.specs.Bounds.{ComesDue, fed_in, piece_in}
 use Rattle.ft_orb.specs.Parked.{going_in}
-use Rattle.ft_orb.specs.Parking.{parked_in, waits_on}
+use Rattle.ft_orb.specs.Parking.{AreParked, parked_in, waits_on}
 use Rattle.lemonrudder.specs.declared.object.Object.{Object}
 use Rattle.lemonrudder.specs.declared.object.Object.TheVariants.{Server}
 use Rattle.lemonrudder.specs.declared.refusal.Refusal.{Refusal}
@@ -26,6 +28,7 @@ use Rattle.lemonrudder.specs.declared.terms.Setup.{Setup}
 use Rattle.lemonrudder.specs.Connected.{AreAsNoted, AreOthers, AreOthersNoted, AreSame, Notes, OnlyDue, StartsLeaving, is_there, leaves_in, owed_in, why_in}
 use Rattle.lemonrudder.specs.Late.{ClosesLate, ForgetsLate, IsClosedLate, LosesLate, OpensLate, TakesLate, TicksLate}
 use Rattle.lemonrudder.specs.Refusals.{filled, refusal_of_connecting, refusal_of_serving}
+use Rattle.lemonrudder.specs.Tallied.{as_counted, one_given_up}
 use Rattle.lemonrudder.specs.Tickets.{called_by, waiting_by}
 
 -- a call is refused, and nothing has changed
@@ -88,6 +91,19 @@ KeepsCatalogue s t = (t.engine.offering ≡ s.engine.offering) × (t.setup ≡ s
 abbrev pub KeepsTickets : Serving → Serving → Type 0
 KeepsTickets s t = asks_in t.engine ≡ asks_in s.engine
 
+-- .. what is parked stays as it is, and so do outcomes that are told, and what is counted changes so
+abbrev pub KeepsParked : (Counts → Counts) → Serving → Serving → Type 0
+KeepsParked counted s t = KeepsTickets s t × AreParked s.engine t.engine × (counts_in t.engine ≡ counted (counts_in s.engine))
+
+-- no connection ends, as the engine says it
+abbrev pub KeepsEndings : Serving → Serving → Type 0
+KeepsEndings s t = AreEndings s.engine t.engine
+
+-- .. but c, where memory was short
+abbrev pub EndsIfShort : {C : Type 0} → ℕ → Engine C → Engine C → Result (Unit {0}) ServeError → Type 0
+EndsIfShort c old new (Ok x) = AreEndings old new
+EndsIfShort c old new (Err e) = EndsShort old new c e
+
 -- a call by a ticket is refused where nothing waits, and where another request does, and else does this by what waits
 abbrev pub ByWaiting : Result Awaited Refusal → Serving → Serving → Result ℕ Refusal → (Awaited → Type 0) → Type 0
 ByWaiting (Err e) s t r Does = IsRefused e s t r
@@ -119,11 +135,11 @@ abbrev pub Opens : ℕ → Result (Unit {0}) ConnectError → Serving → Servin
 Opens c (Ok x) s t = (is_there t.connections c ≡ true) × (owed_on t c ≡ owed_on s c) × AreOthers c s.connections t.connections
 Opens c (Err e) s t = AreSame s.connections t.connections
 
--- a connection is opened: not while a request waits, and where memory is short nothing has changed
+-- a connection is opened: not while a request waits, and where memory is short for one that is not there nothing has changed
 abbrev pub OnConnect : ℕ → Serving → Serving → Result ℕ Refusal → Type 0
-OnConnect c s t r = WhereIdle s t r (((r ≡ Err refusal.Memory) × IsSame s t)
-    ⊎ ((o : Result (Unit {0}) ConnectError) × (r ≡ done_of 0 refusal_of_connecting o) × IsIdle t × Opens c o s t × (t.ready ≡ s.ready) × (t.engine.offering ≡ s.engine.offering) × (t.setup ≡ opened_with o s.setup) × KeepsTickets s t
-    × OpensLate c s t o × KeepsNotes s t))
+OnConnect c s t r = WhereIdle s t r (((r ≡ Err refusal.Memory) × (is_there s.connections c ≡ false) × IsSame s t)
+    ⊎ ((o : Result (Unit {0}) ConnectError) × (r ≡ done_of 0 refusal_of_connecting o) × IsIdle t × Opens c o s t × (t.ready ≡ s.ready) × (t.engine.offering ≡ s.engine.offering) × (t.setup ≡ opened_with o s.setup) × KeepsParked as_counted s t
+    × OpensLate c s t o × KeepsNotes s t × KeepsEndings s t))
 
 -- a connection is forgotten, with what was due on it and noted of it, and is named no more
 abbrev pub Forgotten : ℕ → Serving → Serving → Type 0
@@ -131,7 +147,7 @@ Forgotten c s t = (is_there t.connections c ≡ false) × AreOthers c s.connecti
 
 -- a connection is lost: not while a request waits
 abbrev pub OnLost : ℕ → Serving → Serving → Result ℕ Refusal → Type 0
-OnLost c s t r = WhereIdle s t r ((r ≡ Ok 0) × IsIdle t × Forgotten c s t × KeepsCatalogue s t × KeepsTickets s t × LosesLate c s t)
+OnLost c s t r = WhereIdle s t r ((r ≡ Ok 0) × IsIdle t × Forgotten c s t × KeepsCatalogue s t × KeepsParked as_counted s t × LosesLate c s t × KeepsEndings s t)
 
 -- a connection ended by it, if it went on: it was closed, or memory was short
 abbrev pub EndsBy : ℕ → Serving → Serving → Result (Unit {0}) ServeError → Type 0
@@ -140,7 +156,7 @@ EndsBy c s t (Err e) = EndsShort s.engine t.engine c e
 
 -- goodbye is said on a connection on which nobody waits, and what the engine writes is due after what was
 abbrev pub Closes : ℕ → Serving → Serving → Result (Unit {0}) ServeError → Type 0
-Closes c s t o = IsIdle t × ChangesDue c s t × KeepsCatalogue s t × KeepsTickets s t × ClosesLate c s t o × EndsBy c s t o × NotesWhy c s t
+Closes c s t o = IsIdle t × ChangesDue c s t × KeepsCatalogue s t × KeepsParked as_counted s t × ClosesLate c s t o × EndsBy c s t o × NotesWhy c s t
 
 abbrev pub IsClosed : ℕ → Serving → Serving → Result ℕ Refusal → Type 0
 IsClosed c s t r = (o : Result (Unit {0}) ServeError) × (r ≡ done_of 0 refusal_of_serving o) × Closes c s t o
@@ -175,13 +191,13 @@ Takes c moment octets s t f =
     × ComesDue s.setup.terms.due (length (owed_on t c)) (length octets) f × IfErr f (λ e. EndsShort s.engine t.engine c e) × TakesLate c moment octets s t f
 
 abbrev pub Serves : (c moment : ℕ) → List ℕ → Serving → Serving → Result ℕ Refusal → Type 0
-Serves c moment octets s t r = (f : Result Taken ServeError) × (r ≡ taken_of (length octets) f) × ChangesDue c s t × KeepsCatalogue s t × Takes c moment octets s t f × NotesWhy c s t
+Serves c moment octets s t r = (f : Result Taken ServeError) × (r ≡ taken_of (length octets) f) × ChangesDue c s t × KeepsCatalogue s t × AreParked s.engine t.engine × Takes c moment octets s t f × NotesWhy c s t
 
 -- a moment has come, and nothing else
 abbrev pub Ticks : ℕ → Serving → Serving → Type 0
-Ticks moment s t = IsIdle t × KeepsDue s t × KeepsNotes s t × KeepsCatalogue s t × KeepsTickets s t
+Ticks moment s t = IsIdle t × KeepsDue s t × KeepsNotes s t × KeepsCatalogue s t × KeepsParked as_counted s t
     × (clock_in t.engine ≡ max (clock_in s.engine) moment) × (kept_in t.engine ≡ unexpired (clock_in t.engine) (kept_in s.engine))
-    × TicksLate moment s t
+    × TicksLate moment s t × KeepsEndings s t
 
 -- Octets of a connection are fed: not while a request waits. Where there is no such connection only the moment counts. Those of one
 -- that is leaving mean nothing: all are taken, and only the moment counts too. Where as many octets are due on it as may be none are
@@ -194,7 +210,7 @@ OnFeed c moment octets s t r = WhereIdle s t r ((is_there s.connections c ≡ fa
 -- the request of a ticket is given up: n requests and locates of its piece were answered before, it does not count, and its connection
 -- has ended
 abbrev pub OnGiveUp : ℕ → Serving → Serving → Result ℕ Refusal → Type 0
-OnGiveUp ticket s t r = ByTicket ticket s t r (λ w. (r ≡ Ok 0) × IsIdle t × KeepsDue s t × KeepsCatalogue s t × KeepsTickets s t × (n : ℕ) × ForgetsLate n s t
+OnGiveUp ticket s t r = ByTicket ticket s t r (λ w. (r ≡ Ok 0) × IsIdle t × KeepsDue s t × KeepsCatalogue s t × KeepsParked one_given_up s t × (n : ℕ) × ForgetsLate n s t
     × EndsLast t.engine w.connection GivenUp × NotesWhy w.connection s t)
 
 -- octets that are due on a connection are copied to the front of a room, as many as it has, and are due no longer

@@ -4,7 +4,10 @@ use Rattle.ft_log.specs.Holding.{Holding, known, parked}
 use Rattle.ft_log.specs.Performed.{Performed}
 use Rattle.ft_objects.specs.Families.{families_offer}
 use Rattle.ft_orb.specs.declared.parked.Waiter.{Waiter}
+use Rattle.ft_orb.specs.declared.unkept.Unkept.{Unkept}
+use Rattle.ft_orb.specs.Decisions.{settled_unkept}
 use Rattle.ft_orb.specs.Deeds.{Told}
+use Rattle.ft_orb.specs.Engines.{counts_in}
 use Rattle.ft_orb.specs.History.{Withdrew}
 use Rattle.ft_orb.specs.Parking.{CanSettle, Settings, Stays, parked_at, parked_in, put_at, told_in}
 use Rattle.ft_orb.specs.Requests.{Call}
@@ -14,6 +17,7 @@ use Rattle.lemonrudder.specs.declared.serving.Serving.{Serving}
 use Rattle.lemonrudder.specs.Late.{WhereStays}
 use Rattle.lemonrudder.specs.Replying.{Carries, Contexts}
 use Rattle.lemonrudder.specs.Serves.{IsIdle, IsRefused, KeepsCatalogue, KeepsTickets}
+use Rattle.lemonrudder.specs.Tallied.{one_settled}
 use Rattle.lemonrudder.specs.Telling.{AreTold, Scene}
 
 -- all that is parked stays as it is, but for what is under number n, where nothing is any more
@@ -35,13 +39,13 @@ WithdrawsLate n outcome s t = WhereStays s (λ x held calls past waiting. (i : �
 
 -- an outcome of the request that is parked under a number is handed in, and n is answered
 abbrev pub Settles : (number n : ℕ) → Performed → (said : Contexts) → Serving → Serving → Result ℕ Refusal → Type 0
-Settles number n outcome said s t r = (r ≡ Ok n) × IsIdle t × KeepsCatalogue s t × KeepsTickets s t × Unparks number s t × SettlesLate number outcome said s t
+Settles number n outcome said s t r = (r ≡ Ok n) × IsIdle t × KeepsCatalogue s t × KeepsTickets s t × Unparks number s t × SettlesLate number outcome said s t × (counts_in t.engine ≡ one_settled (counts_in s.engine))
 
--- It is declined, and nothing of it is kept: not where that can't be its outcome, as its operation is on offer now.
-abbrev pub Withdraws : (number : ℕ) → Performed → Serving → Serving → Result ℕ Refusal → Type 0
-Withdraws number outcome s t r = let Can = CanSettle (families_offer s.engine.offering.catalogue) (parked_at s.engine number) outcome in
+-- It is told this, and nothing of it is kept: not where that can't be its outcome, as its operation is on offer now.
+abbrev pub Withdraws : Unkept → (number : ℕ) → Performed → Serving → Serving → Result ℕ Refusal → Type 0
+Withdraws u number outcome s t r = let Can = CanSettle (families_offer s.engine.offering.catalogue) (parked_at s.engine number) outcome in
     (¬ Can → IsRefused refusal.Outcome s t r)
-    × (Can → (r ≡ Ok 0) × IsIdle t × KeepsCatalogue s t × KeepsTickets s t × Unparks number s t × WithdrawsLate number outcome s t)
+    × (Can → (r ≡ Ok 0) × IsIdle t × KeepsCatalogue s t × KeepsTickets s t × Unparks number s t × WithdrawsLate number outcome s t × (counts_in t.engine ≡ settled_unkept u (counts_in s.engine)))
 
 -- Words of private functions.
 

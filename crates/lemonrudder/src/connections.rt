@@ -63,7 +63,7 @@ impl Connections {
         ensures owed { is_there self.old connection ≡ false → owed_in self.new connection ≡ [] }
         ensures stays { is_there self.old connection ≡ true → AreSame self.old self.new }
         ensures err { OnErr result (AreSame self.old self.new) }
-        ensures why { IfErr result (λ e. e ≡ Refusal.Memory) }
+        ensures why { IfErr result (λ e. (e ≡ Refusal.Memory) × (is_there self.old connection ≡ false)) }
         ensures noted { AreAsNoted self.old self.new }
     {
         if self.has(connection) {

@@ -1,15 +1,15 @@
 //! Service contexts in octets of the caller.
 
-ghost use Rattle.std.specs.Prelude.{◌≡◌, map, ⊤};
+ghost use Rattle.std.specs.Prelude.{◌≡◌, ◌==◌, ◌<◌, false, length, map};
 ghost use Rattle.cdr_core.specs.Private.{GivesUnlessMemory};
 ghost use Rattle.cdr_core.specs.Reading.{each_at, value_at};
 ghost use Rattle.cdr_core.specs.Value.{values};
 ghost use Rattle.ior_core.specs.Grammar.{tagged};
 ghost use Rattle.ior_core.specs.View.{lent_value};
-ghost use Rattle.lemonrudder.specs.RawCalls.{ReadsContexts};
+ghost use Rattle.lemonrudder.specs.RawCalls.{AreJudged, PassesOver, ReadsContexts};
 
 use crate::refusal::Refusal;
-use cdr_core::{CdrError, Cursor, Order};
+use cdr_core::{CdrError, Cursor, Fault, Order};
 use ior_core::read_tagged;
 use std::alloc::Global;
 
@@ -19,7 +19,7 @@ fn each_of<'a>(
     count: u32,
     cursor: &mut Cursor<'a>,
 ) -> Result<Vec<(u32, &'a [u8])>, CdrError>
-    ensures { GivesUnlessMemory (λ v. values (map lent_value v.items)) result (each_at (value_at tagged cursor.old.order) count) (λ _ _ _. ⊤) cursor.old cursor.new }
+    ensures { GivesUnlessMemory (λ v. values (map lent_value v.items)) result (each_at (value_at tagged cursor.old.order) count) (λ _ _ _. 0 < count) cursor.old cursor.new }
 {
     let mut all = Vec::new(alloc);
     for _ in 0..count {
@@ -29,7 +29,31 @@ fn each_of<'a>(
     Ok(all)
 }
 
-/// The service contexts that octets are in this order, lent from them.
+/// Passes over so many service contexts, which follow one another: none is made.
+fn pass_each(count: u32, cursor: &mut Cursor<'_>) -> Result<(), Fault>
+    ensures { PassesOver count result cursor.old cursor.new }
+{
+    for _ in 0..count {
+        let _one = read_tagged(cursor)?;
+    }
+    Ok(())
+}
+
+/// Whether some octets are service contexts in this order, all of them: none is made.
+fn judged(order: Order, octets: &[u8]) -> Result<(), Refusal>
+    requires some { (length octets.now == 0) ≡ false }
+    ensures { AreJudged order octets.now result }
+{
+    let mut cursor = Cursor::new(octets, order, 0);
+    let count = cursor.count()?;
+    pass_each(count, &mut cursor)?;
+    if !cursor.rest().is_empty() {
+        return Err(Refusal::Value);
+    }
+    Ok(())
+}
+
+/// The service contexts that octets are in this order, lent from them. Others take no memory.
 pub fn contexts_of<'a>(
     alloc: Global,
     order: Order,
@@ -40,11 +64,9 @@ pub fn contexts_of<'a>(
     if octets.is_empty() {
         return Ok(Vec::new(alloc));
     }
+    judged(order, octets)?;
     let mut cursor = Cursor::new(octets, order, 0);
     let count = cursor.count()?;
     let contexts = each_of(alloc, count, &mut cursor)?;
-    if !cursor.rest().is_empty() {
-        return Err(Refusal::Value);
-    }
     Ok(contexts)
 }

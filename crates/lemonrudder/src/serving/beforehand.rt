@@ -43,7 +43,7 @@ impl Serving {
     }
 
     /// Whether octets may be the body of its Reply, of whichever status and order.
-    fn can_be_body(&self, found: Found, octets: &[u8]) -> bool
+    pub(super) fn can_be_body(&self, found: Found, octets: &[u8]) -> bool
         ensures { (status : Status) (order : ByteOrder) → IsTrue result ↔ CanBe found (raw status order octets.now) self.now }
     {
         giop_core::laws::octets_bodies();
@@ -67,10 +67,14 @@ impl Serving {
         }
     }
 
-    /// The values of types whose octets these are; others are no outcome.
+    /// The values of types whose octets these are; others are no outcome, and take no memory.
     fn values(&self, types: &[Ty], order: Order, octets: &[u8]) -> Result<Vec<Val>, Refusal>
-        ensures { AreValid (forms_of types.now) → AreRead (Some (forms_of types.now)) order octets.now result }
+        requires valid { AreValid (forms_of types.now) }
+        ensures { AreRead (Some (forms_of types.now)) order octets.now result }
     {
+        if !are_values(types, order, octets) {
+            return Err(Refusal::Outcome);
+        }
         of_outcome(values_of(self.alloc, types, order, octets))
     }
 

@@ -13,8 +13,10 @@ use ft_log::{Completion, Outcome};
 use ft_orb::{CloseError, Unkept};
 
 impl Serving {
-    ghost use Rattle.lemonrudder.specs.Declining.{DeclinesAsked, OnAnswerUnkept, OnGoodbye, OnRefuse, PassesOn};
+    ghost use Rattle.lemonrudder.specs.Declining.{DeclinesAsked, OnAnswerUnkept, OnGoodbye, OnRefuse, Tells};
+    ghost use Rattle.lemonrudder.specs.Outcomes.{CanBe};
     ghost use Rattle.lemonrudder.specs.Tickets.{IsFound};
+    ghost use Rattle.ft_orb.specs.declared.unkept.Unkept.TheVariants.{Performed};
     ghost use Rattle.lemonrudder.specs.declared.serving.questions.Found.TheVariants.{Waits};
 
     /// Tells an outcome to the request that waits, and keeps nothing.
@@ -27,7 +29,7 @@ impl Serving {
     ) -> Result<u64, Refusal>
         requires found { IsFound (Waits number connection) (waits_in self.old.engine) }
         requires renderable { IsRenderable (performed_in outcome.now) }
-        ensures { DeclinesAsked connection (performed_in outcome.now) self.old self.new result }
+        ensures { DeclinesAsked unkept connection (performed_in outcome.now) self.old self.new result }
     {
         let mut due = self.connections.take(connection);
         let told = self.engine.tell(number, outcome, unkept, &mut due.octets);
@@ -40,14 +42,12 @@ impl Serving {
         }
     }
 
-    /// .. to one that waits or is parked, where it may be its outcome.
+    /// .. that its owner has stored, to one that waits or is parked.
     fn pass_on(&mut self, found: Found, outcome: Outcome) -> Result<u64, Refusal>
         requires found { IsFound found (waits_in self.old.engine) }
-        ensures { PassesOn found (performed_in outcome) self.old self.new result }
+        requires can { CanBe found (performed_in outcome) self.old }
+        ensures { Tells Performed found (performed_in outcome) self.old self.new result }
     {
-        if !self.can_be(found, &outcome) {
-            return Err(Refusal::Outcome);
-        }
         match found {
             Found::Waits(number, connection) => {
                 self.tell_asked(number, connection, &outcome, Unkept::Performed)
@@ -70,6 +70,9 @@ impl Serving {
         let order = order_of(order)?;
         let called = self.called_by(ticket)?;
         let found = called.found;
+        if !self.can_be_body(found, body) {
+            return Err(Refusal::Outcome);
+        }
         let body = copy_of(self.alloc, body)?;
         self.pass_on(found, Outcome::Raw(status, order, body))
     }

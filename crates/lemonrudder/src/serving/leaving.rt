@@ -1,6 +1,7 @@
 //! Connections on which goodbye is said, and why they end.
 
 ghost use Rattle.std.specs.Prelude.{◌≡◌, ℕ, true};
+ghost use Rattle.ft_orb.specs.Engines.{counts_in};
 ghost use Rattle.ft_orb.specs.Parking.{AreParked, left_in, waits_on};
 ghost use Rattle.lemonrudder.specs.Leaving.{why_number};
 
@@ -47,6 +48,7 @@ impl Serving {
         ensures idle { IsIdle self.new }
         ensures catalogue { KeepsCatalogue self.old self.new }
         ensures tickets { KeepsTickets self.old self.new }
+        ensures counts { counts_in self.new.engine ≡ counts_in self.old.engine }
     {
         if !self.connections.is_leaving(connection) {
             return;

@@ -102,6 +102,9 @@ impl Serving {
         if !self.are_results(&called.asked, order, octets) {
             return Err(Refusal::Outcome);
         }
+        if !self.can_be_body(found, octets) {
+            return Err(Refusal::Outcome);
+        }
         let body = copy_of(self.alloc, octets)?;
         self.hand_in(
             ticket,
@@ -164,6 +167,9 @@ impl Serving {
         let order = order_of(order)?;
         let called = self.called_by(ticket)?;
         let found = called.found;
+        if !self.can_be_body(found, body) {
+            return Err(Refusal::Outcome);
+        }
         let body = copy_of(self.alloc, body)?;
         self.hand_in(ticket, found, Outcome::Raw(status, order, body), 0)
     }

@@ -1,6 +1,6 @@
 //! Service contexts of replies to come, which are said before an answer.
 
-ghost use Rattle.std.specs.Prelude.{◌≡◌, ◌<◌, ◌++◌, ◌∷◌, [], ℕ, IsSome, List, None, Some, length, map};
+ghost use Rattle.std.specs.Prelude.{◌≡◌, ◌<◌, ◌++◌, ◌∷◌, [], ℕ, IfErr, IsSome, List, None, OnOk, Some, length, map};
 ghost use Rattle.giop_core.specs.Items.{item_at};
 ghost use Rattle.ft_log.specs.Holding.{Holding, known};
 ghost use Rattle.ft_log.specs.Performed.{Performed};
@@ -8,12 +8,13 @@ ghost use Rattle.ft_log.specs.View.{performed_in};
 ghost use Rattle.ft_objects.specs.Families.{families_offer};
 ghost use Rattle.ft_orb.specs.declared.parked.Waiter.{Waiter};
 ghost use Rattle.ft_orb.specs.Carrying.{asker_in, due_in, reply_if, unless_failed};
-ghost use Rattle.ft_orb.specs.Engines.{Awaited, CanAnswer, asks_in, waits_in};
+ghost use Rattle.ft_orb.specs.Engines.{AreEndings, Awaited, CanAnswer, EndsShort, asks_in, counts_in, waits_in};
 ghost use Rattle.ft_orb.specs.History.{Event};
 ghost use Rattle.ft_orb.specs.Parking.{AreParked, AsksLate, RepliesLate, ResumesLate, Settings, Stays, left_in, put_at, told_in};
 ghost use Rattle.ft_orb.specs.Requests.{Call};
 ghost use Rattle.ft_orb.specs.Standing.{note_of};
 ghost use Rattle.lemonrudder.specs.Replying.{AreCarried, AreLent, Contexts, SaysOf, left_for, said_for};
+ghost use Rattle.lemonrudder.specs.Tallied.{one_answered};
 
 use crate::contexts::contexts_of;
 use crate::named::order_of;
@@ -108,7 +109,11 @@ pub(super) fn answer_carrying(
         → ResumesLate families_offer x (put_at (length calls) (known (performed_in outcome)) held) (calls ++ w.call ∷ []) past waiting w.connection moment octets written (note_of result) engine.new out.old.items (out.old.items ++ unless_failed result (reply_if [] (asker_in engine.old) (Some (performed_in outcome)))) }
     ensures idle { waits_in engine.new ≡ None }
     ensures asks { asks_in engine.new ≡ asks_in engine.old }
+    ensures parked { AreParked engine.old engine.new }
     ensures catalogue { engine.new.offering ≡ engine.old.offering }
+    ensures counted { counts_in engine.new ≡ one_answered (counts_in engine.old) }
+    ensures ended { OnOk result (AreEndings engine.old engine.new) }
+    ensures short { (w : Awaited) → waits_in engine.old ≡ Some w → IfErr result (λ e. EndsShort engine.old engine.new w.connection e) }
 {
     if engine.can_answer_with(number, &outcome, contexts) {
         return engine.answer_with(number, outcome, contexts, out);
@@ -132,6 +137,7 @@ pub(super) fn reply_carrying(
     ensures waits { waits_in engine.new ≡ waits_in engine.old }
     ensures asks { asks_in engine.new ≡ asks_in engine.old }
     ensures catalogue { engine.new.offering ≡ engine.old.offering }
+    ensures counts { counts_in engine.new ≡ counts_in engine.old }
 {
     if engine.can_reply_with(number, contexts) {
         return engine.reply_with(number, contexts, out);

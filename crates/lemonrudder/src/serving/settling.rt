@@ -7,6 +7,7 @@ ghost use Rattle.ft_log.specs.View.{performed_in};
 ghost use Rattle.ft_objects.specs.Families.{families_offer};
 ghost use Rattle.ft_orb.specs.declared.parked.Waiter.{Waiter};
 ghost use Rattle.ft_orb.specs.Deeds.{Told};
+ghost use Rattle.ft_orb.specs.Engines.{counts_in};
 ghost use Rattle.ft_orb.specs.History.{Event};
 ghost use Rattle.ft_orb.specs.Parking.{AreParked, Settings, Stays, left_in, parked_in, told_in};
 ghost use Rattle.ft_orb.specs.Requests.{Call};
@@ -40,6 +41,7 @@ impl Serving {
         ensures idle { IsIdle self.new }
         ensures catalogue { KeepsCatalogue self.old self.new }
         ensures tickets { KeepsTickets self.old self.new }
+        ensures counts { counts_in self.new.engine ≡ counts_in self.old.engine }
     {
         let mut due = self.connections.take(connection);
         let before = due.size();
@@ -68,6 +70,7 @@ impl Serving {
         ensures idle { IsIdle self.new }
         ensures catalogue { KeepsCatalogue self.old self.new }
         ensures tickets { KeepsTickets self.old self.new }
+        ensures counts { counts_in self.new.engine ≡ counts_in self.old.engine }
     {
         while let Some(connection) = self.engine.due(number) {
             self.tell(number, connection, contexts);
@@ -100,7 +103,7 @@ impl Serving {
         unkept: Unkept,
     ) -> Result<u64, Refusal>
         requires idle { IsIdle self.old }
-        ensures { Withdraws number (performed_in outcome) self.old self.new result }
+        ensures { Withdraws unkept number (performed_in outcome) self.old self.new result }
     {
         if !self.engine.can_settle(number, &outcome) {
             return Err(Refusal::Outcome);

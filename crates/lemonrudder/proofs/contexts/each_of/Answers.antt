@@ -1,4 +1,4 @@
-use Rattle.std.proofs.Common.{map}
+use Rattle.std.proofs.Common.{ℕ, ◌<◌, map, arith}
 use Rattle.std.proofs.lemmas.Result.{err_from_is_err_and}
 use Rattle.cdr_core.specs.Reading.{value_at}
 use Rattle.cdr_core.specs.Value.{values}
@@ -6,6 +6,9 @@ use Rattle.cdr_core.proofs.Turns.{each_done, each_more, each_stops, values_push}
 use Rattle.ior_core.specs.Grammar.{tagged}
 use Rattle.ior_core.specs.View.{lent_value}
 use Rattle.lemonrudder.proofs.contexts.each_of.Goals as goal
+
+some-left : (n i : ℕ) → i < n → 0 < n
+some-left n i less = omega (arith, less)
 
 pub returns-in_err-one : goal.returns-in_err-one
 returns-in_err-one c =
@@ -33,4 +36,4 @@ returns c =
 pub returns-in_err-push : goal.returns-in_err-push
 returns-in_err-push c =
     let p = err_from_is_err_and c.from_residual-in_err-push.result c.from_residual-in_err-push.ensures.1 in
-    rw (p.1, p.2) (tt, tt)
+    rw (p.1, p.2) (tt, some-left c.args.count c.loop.counter c.loop-test.true)

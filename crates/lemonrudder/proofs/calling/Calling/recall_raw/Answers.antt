@@ -15,14 +15,14 @@ returns-in_err-manner c =
     let q = raw_question_of c.args.question.now in
     let s = c.args.self.now in
     let p = err_from_is_err_and c.from_residual-in_err-manner.result c.from_residual-in_err-manner.ensures.1 in
-    recall_misasked c.args.now c.args.expiration q s s c.version.result c.version.ensures c.args.call _ _ (inl c.in_err-manner.ensures) (λ x st. st) (p.1 ∙ ap Err p.2)
+    recall_misasked c.args.now c.args.expiration q s s c.version.result c.version.ensures c.args.call c.in_ok-number.number _ _ (numbered_as c.args.call _ c.in_ok-number.number (to_z-of_z w64 c.args.call c.ranges.call) c.in_ok-number.ensures) (inl c.in_err-manner.ensures) (λ x st. st) (p.1 ∙ ap Err p.2)
 
 pub returns-in_err-contexts : goal.returns-in_err-contexts
 returns-in_err-contexts c =
     let q = raw_question_of c.args.question.now in
     let s = c.args.self.now in
     let p = err_from_is_err_and c.from_residual-in_err-contexts.result c.from_residual-in_err-contexts.ensures.1 in
-    recall_misasked c.args.now c.args.expiration q s s c.version.result c.version.ensures c.args.call _ _ (no_contexts c.version.result q c.in_ok-manner.manner _ c.in_ok-manner.ensures c.in_err-contexts.ensures) (λ x st. st) (p.1 ∙ ap Err p.2)
+    recall_misasked c.args.now c.args.expiration q s s c.version.result c.version.ensures c.args.call c.in_ok-number.number _ _ (numbered_as c.args.call _ c.in_ok-number.number (to_z-of_z w64 c.args.call c.ranges.call) c.in_ok-number.ensures) (no_contexts c.version.result q c.in_ok-manner.manner _ c.in_ok-manner.ensures c.in_err-contexts.ensures) (λ x st. st) (p.1 ∙ ap Err p.2)
 
 pub returns-in_err-recall_raw : goal.returns-in_err-recall_raw
 returns-in_err-recall_raw c =

@@ -1,5 +1,6 @@
 use Rattle.std.proofs.Common.{◌∙◌, Err, ap, inl, inr, refl, sym}
 use Rattle.std.proofs.lemmas.Result.{err_from_is_err_and}
+use Rattle.ft_log.specs.declared.outcome.RawStatus.TheVariants.{NoException}
 use Rattle.ft_orb.specs.Engines.{awaited_lent, waits_in}
 use Rattle.ft_orb.specs.Parking.{parked_in}
 use Rattle.lemonrudder.specs.declared.refusal.Refusal.TheVariants.{Outcome}
@@ -33,6 +34,14 @@ returns-then-not-are_results c =
     (by_found (called_by c.args.ticket (waits_in s.engine) (parked_in s.engine)) c.in_ok-called.called.found (awaited_lent c.in_ok-called.called.asked) s s (Err Outcome) (HandsInResults c.args.ticket o c.args.octets.now s s (Err Outcome)) c.in_ok-called.ensures.called
     (λ are. absurd (not_so c.if-not-are_results.true (c.are_results.ensures.1 are)), λ none. (refl, refl)))
 
+pub returns-then-not-can_be_body : goal.returns-then-not-can_be_body
+returns-then-not-can_be_body c =
+    let s = c.args.self.now in
+    let o = c.in_ok-order.order in
+    named _ o s s (Err Outcome) (λ o. ByCalled c.args.ticket s s (Err Outcome) (HandsInResults c.args.ticket o c.args.octets.now s s (Err Outcome))) (sym c.order_of.ensures ∙ c.in_ok-order.was)
+    (by_found (called_by c.args.ticket (waits_in s.engine) (parked_in s.engine)) c.in_ok-called.called.found (awaited_lent c.in_ok-called.called.asked) s s (Err Outcome) (HandsInResults c.args.ticket o c.args.octets.now s s (Err Outcome)) c.in_ok-called.ensures.called
+    (λ are. ((λ cannot. (refl, refl)), λ can. absurd (not_so c.if-not-can_be_body.true ((c.can_be_body.ensures NoException o).1 can))), λ none. (refl, refl)))
+
 pub returns-in_err-body : goal.returns-in_err-body
 returns-in_err-body c =
     let p = err_from_is_err_and c.from_residual-in_err-body.result c.from_residual-in_err-body.ensures.1 in
@@ -41,7 +50,7 @@ returns-in_err-body c =
     let o = c.in_ok-order.order in
     named _ o s s r (λ o. ByCalled c.args.ticket s s r (HandsInResults c.args.ticket o c.args.octets.now s s r)) (sym c.order_of.ensures ∙ c.in_ok-order.was)
     (by_found (called_by c.args.ticket (waits_in s.engine) (parked_in s.engine)) c.in_ok-called.called.found (awaited_lent c.in_ok-called.called.asked) s s r (HandsInResults c.args.ticket o c.args.octets.now s s r) c.in_ok-called.ensures.called
-    (λ are. inl (c.in_err-body.ensures.1, (p.1 ∙ ap Err (p.2 ∙ c.in_err-body.ensures.0), refl)), λ none. absurd (none (c.are_results.ensures.0 c.if-not-are_results.false))))
+    (λ are. ((λ cannot. absurd (cannot ((c.can_be_body.ensures NoException o).0 c.if-not-can_be_body.false))), λ can. inl (c.in_err-body.ensures.1, (p.1 ∙ ap Err (p.2 ∙ c.in_err-body.ensures.0), refl))), λ none. absurd (none (c.are_results.ensures.0 c.if-not-are_results.false))))
 
 pub returns : goal.returns
 returns c =
@@ -51,4 +60,4 @@ returns c =
     let o = c.in_ok-order.order in
     named _ o s t r (λ o. ByCalled c.args.ticket s t r (HandsInResults c.args.ticket o c.args.octets.now s t r)) (sym c.order_of.ensures ∙ c.in_ok-order.was)
     (by_found (called_by c.args.ticket (waits_in s.engine) (parked_in s.engine)) c.in_ok-called.called.found (awaited_lent c.in_ok-called.called.asked) s t r (HandsInResults c.args.ticket o c.args.octets.now s t r) c.in_ok-called.ensures.called
-    (λ are. inr (rw c.in_ok-body.ensures at c.hand_in.ensures), λ none. absurd (none (c.are_results.ensures.0 c.if-not-are_results.false))))
+    (λ are. let h = rw c.in_ok-body.ensures at c.hand_in.ensures in (h.0, λ can. inr (h.1 can)), λ none. absurd (none (c.are_results.ensures.0 c.if-not-are_results.false))))

@@ -9,6 +9,7 @@ use Rattle.ft_orb.specs.Standing.{note_of}
 use Rattle.lemonrudder.specs.Serves.{owed_on}
 use Rattle.lemonrudder.proofs.Asked.{asked-idle, carry, found-there, only-only}
 use Rattle.lemonrudder.proofs.Carrying.{carried-are, carried_by}
+use Rattle.lemonrudder.proofs.Ending.{ends-if-short}
 use Rattle.lemonrudder.proofs.Noting.{noted-noted, notes-why, only-noted}
 use Rattle.lemonrudder.proofs.Owing.{grows}
 use Rattle.lemonrudder.proofs.OwingLate.{resumes-late-owed}
@@ -38,13 +39,14 @@ returns c =
       c.answer_carrying-answered.ensures.idle,
       (only-noted c.args.connection s.connections c.put.new.self c.note.new.self only c.note.ensures.same, refl),
       (c.answer_carrying-answered.ensures.catalogue, refl),
-      c.answer_carrying-answered.ensures.asks,
+      (c.answer_carrying-answered.ensures.asks, c.answer_carrying-answered.ensures.parked, c.answer_carrying-answered.ensures.counted),
       (carried, carrying, new ∙ (grows n before sent out placed (c.answer_carrying-answered.ensures.sent carried carrying) ∙ ap (λ (l : List ℕ). l ++ sent) old)),
       λ x held calls past waiting moment octets written w asks.
           carry (λ a b. ResumesLate families_offer x (put_at (length calls) (known outcome) held) (calls ++ w.call ∷ []) past waiting w.connection moment octets written (note_of o) c.answer_carrying-answered.new.engine a b) (drop n before) (drop n (before ++ bare)) (owed_on s c.args.connection) (owed_on s c.args.connection ++ bare) old
           (sym (grows n before bare (before ++ bare) placed refl ∙ ap (λ (l : List ℕ). l ++ bare) old))
           (resumes-late-owed families_offer x (put_at (length calls) (known outcome) held) (calls ++ w.call ∷ []) past waiting n before (before ++ bare) placed w.connection moment octets written (note_of o) c.answer_carrying-answered.new.engine (c.answer_carrying-answered.ensures.late x held calls past waiting moment octets written w asks)),
       notes-why c.args.connection c.ending-why.result _ s.connections c.put.new.self c.note.new.self c.ending-why.ensures only.0 (noted-noted s.connections c.take-due.new.self c.put.new.self c.take-due.ensures.noted c.put.ensures.noted) c.note.ensures.noted,
+      ends-if-short c.args.number c.args.connection s.engine c.answer_carrying-answered.new.engine o c.requires.found c.answer_carrying-answered.ensures.ended c.answer_carrying-answered.ensures.short,
     )
 
 pub invariant_of-self : goal.invariant_of-self

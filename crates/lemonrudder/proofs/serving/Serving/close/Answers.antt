@@ -34,7 +34,7 @@ returns-in-Ok-clause-closed c =
         c.close-closed.ensures.idle,
         (only-noted c.args.connection s.connections c.put.new.self c.note.new.self only c.note.ensures.same, refl),
         (c.close-closed.ensures.catalogue, refl),
-        c.close-closed.ensures.asks,
+        (c.close-closed.ensures.asks, c.close-closed.ensures.parked, c.close-closed.ensures.counts),
         λ x held calls past waiting rests.
             let late = closed-as c.close-closed.result (Done) _ (ap note_of_closing ended) (c.close-closed.ensures.late x held calls past waiting rests) in
             carry (λ a b. EndsLate families_offer x held calls past waiting (Close c.args.connection) (Done) e a b) (drop n before) (drop n out) (owed_on s c.args.connection) (owed_in c.note.new.self c.args.connection) old new
@@ -63,7 +63,7 @@ returns-in-Err-NoConnection-clause-closed c =
         c.close-closed.ensures.idle,
         (only-noted c.args.connection s.connections c.put.new.self c.note.new.self only c.note.ensures.same, refl),
         (c.close-closed.ensures.catalogue, refl),
-        c.close-closed.ensures.asks,
+        (c.close-closed.ensures.asks, c.close-closed.ensures.parked, c.close-closed.ensures.counts),
         λ x held calls past waiting rests.
             let late = closed-as c.close-closed.result (Refused) _ (ap note_of_closing ended) (c.close-closed.ensures.late x held calls past waiting rests) in
             carry (λ a b. EndsLate families_offer x held calls past waiting (Close c.args.connection) (Refused) e a b) (drop n before) (drop n out) (owed_on s c.args.connection) (owed_in c.note.new.self c.args.connection) old new
@@ -92,7 +92,7 @@ returns-in-Err-Memory-clause-closed c =
         c.close-closed.ensures.idle,
         (only-noted c.args.connection s.connections c.put.new.self c.note.new.self only c.note.ensures.same, refl),
         (c.close-closed.ensures.catalogue, refl),
-        c.close-closed.ensures.asks,
+        (c.close-closed.ensures.asks, c.close-closed.ensures.parked, c.close-closed.ensures.counts),
         λ x held calls past waiting rests.
             let late = closed-as c.close-closed.result (Memory 0 0) _ (ap note_of_closing ended) (c.close-closed.ensures.late x held calls past waiting rests) in
             carry (λ a b. EndsLate families_offer x held calls past waiting (Close c.args.connection) (Memory 0 0) e a b) (drop n before) (drop n out) (owed_on s c.args.connection) (owed_in c.note.new.self c.args.connection) old new

@@ -19,9 +19,10 @@ returns-in-Ok c =
         refl,
         c.connect.ensures.catalogue,
         refl,
-        c.connect.ensures.asks,
+        (c.connect.ensures.asks, c.connect.ensures.parked, c.connect.ensures.counts),
         c.in-Ok.ensures.late,
         c.open.ensures.noted,
+        c.connect.ensures.ended,
       ),
     )
 
@@ -37,8 +38,9 @@ returns-in-Err c =
         refl,
         c.connect.ensures.catalogue,
         refl,
-        c.connect.ensures.asks,
+        (c.connect.ensures.asks, c.connect.ensures.parked, c.connect.ensures.counts),
         c.in-Err.ensures.late,
         undone-noted c.args.connection c.has-was.result s.connections c.open.new.self c.undo.new.self c.has-was.ensures c.open.ensures.noted c.undo.ensures.noted c.undo.ensures.gone c.undo.ensures.noted_stays,
+        c.connect.ensures.ended,
       ),
     )

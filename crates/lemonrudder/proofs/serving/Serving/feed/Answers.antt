@@ -17,7 +17,7 @@ returns-then-not-has c =
     let e = c.tick.ensures in (
       λ some. absurd (not_so c.if-is_asking.false (c.is_asking.ensures.1 some)),
       λ idle. (
-        λ none. (refl, (e.idle, (λ q. (refl, refl), refl), λ q. (refl, refl), (e.catalogue, refl), e.asks, e.clock, e.forgotten, e.late)),
+        λ none. (refl, (e.idle, (λ q. (refl, refl), refl), λ q. (refl, refl), (e.catalogue, refl), (e.asks, e.parked, e.counts), e.clock, e.forgotten, e.late, e.ended)),
         λ there. absurd (not_so (sym c.has.ensures ∙ c.if-not-has.true) there),
       ),
     )
@@ -29,7 +29,7 @@ returns-then-is_leaving c =
       λ idle. (
         λ none. absurd (not_so none (sym c.has.ensures ∙ c.if-not-has.false)),
         λ there. (
-          λ leaves. (ap Ok c.count_of.ensures, (e.idle, (λ q. (refl, refl), refl), λ q. (refl, refl), (e.catalogue, refl), e.asks, e.clock, e.forgotten, e.late)),
+          λ leaves. (ap Ok c.count_of.ensures, (e.idle, (λ q. (refl, refl), refl), λ q. (refl, refl), (e.catalogue, refl), (e.asks, e.parked, e.counts), e.clock, e.forgotten, e.late, e.ended)),
           λ stays. absurd (not_so stays (sym c.is_leaving.ensures ∙ c.if-is_leaving.true)),
         ),
       ),

@@ -15,7 +15,7 @@ returns c =
       c.give_up.ensures.idle,
       (c.note.ensures.same, refl),
       (c.give_up.ensures.catalogue, refl),
-      c.give_up.ensures.asks,
+      (c.give_up.ensures.asks, c.give_up.ensures.parked, c.give_up.ensures.counted),
       c.give_up.result,
       λ x held calls past waiting moment octets written v asks. (c.give_up.ensures.counts x held calls past waiting moment octets written v asks, c.give_up.ensures.late x held calls past waiting moment octets written v asks),
       c.give_up.ensures.ended w (waits-are c.args.ticket (waits_in s.engine) w c.in_ok-asked.ensures),

@@ -32,7 +32,7 @@ returns-in-Ok c =
         (only-noted w.connection s.connections c.put.new.self c.note.new.self only c.note.ensures.same, refl),
         new ∙ (grows d.taken d.octets.items close_connection c.goodbye-given_up.new.out.items c.take-due.ensures.placed e.closed ∙ ap (λ (l : List ℕ). l ++ close_connection) c.take-due.ensures.owed),
         (c.goodbye-given_up.ensures.catalogue, refl),
-        c.goodbye-given_up.ensures.asks,
+        (c.goodbye-given_up.ensures.asks, c.goodbye-given_up.ensures.parked, e.counted),
         x,
         λ y held calls past waiting moment octets written v asks. (e.counts y held calls past waiting moment octets written v asks, e.late y held calls past waiting moment octets written v asks),
         e.ended w waits,

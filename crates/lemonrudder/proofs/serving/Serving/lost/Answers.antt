@@ -15,8 +15,9 @@ returns c = (
     c.lost.ensures.idle,
     (c.remove.ensures.gone, c.remove.ensures.others, c.remove-2.ensures.updates.1, λ q apart. grind (arith, common_steps, c.remove-2.ensures.updates.2 q), c.remove.ensures.noted),
     (c.lost.ensures.catalogue, refl),
-    c.lost.ensures.asks,
+    (c.lost.ensures.asks, c.lost.ensures.parked, c.lost.ensures.counts),
     c.lost.ensures.late,
+    c.lost.ensures.ended,
   ),
 )
 

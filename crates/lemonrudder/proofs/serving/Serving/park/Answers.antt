@@ -36,7 +36,7 @@ returns-in-Err-Memory c =
     let e = rw ended at c.park.ensures.err in
     by_ticket (waiting_by c.args.ticket (waits_in s.engine)) w _ _ _ _ c.in_ok-number.ensures (
       λ none. absurd (not_memory c.park.result Memory ended (λ e. cc) (λ e. cc) (no_place (places_of s.engine) (parked_count s.engine) (λ v. places_of_one s.engine ≤ parked_of s.engine v.connection) (waits_in s.engine) w c.park.result waits c.park.ensures.full.1 c.park.ensures.share.1 none)),
-      λ some. ((λ q. (refl, refl), refl), (λ q. (refl, refl)), (c.park.ensures.catalogue, refl), c.park.ensures.asks, inl (refl, e.0, e.1, λ x held calls past waiting moment octets written v asks. rw ended at c.park.ensures.kept x held calls past waiting moment octets written v asks)),
+      λ some. ((λ q. (refl, refl), refl), (λ q. (refl, refl)), (c.park.ensures.catalogue, refl), c.park.ensures.asks, c.park.ensures.ended, inl (refl, e.0, e.1, (λ x held calls past waiting moment octets written v asks. rw ended at c.park.ensures.kept x held calls past waiting moment octets written v asks), rw ended at c.park.ensures.uncounted)),
     )
 
 pub returns-in-Ok : goal.returns-in-Ok
@@ -47,5 +47,5 @@ returns-in-Ok c =
     let ended : c.park.result ≡ Ok tt = grind (arith, common_steps) in
     by_ticket (waiting_by c.args.ticket (waits_in s.engine)) w _ _ _ _ c.in_ok-number.ensures (
       λ none. absurd (done_not c.park.result ended (no_place (places_of s.engine) (parked_count s.engine) (λ v. places_of_one s.engine ≤ parked_of s.engine v.connection) (waits_in s.engine) w c.park.result waits c.park.ensures.full.1 c.park.ensures.share.1 none)),
-      λ some. ((λ q. (refl, refl), refl), (λ q. (refl, refl)), (c.park.ensures.catalogue, refl), c.park.ensures.asks, inr (refl, c.in-Ok.ensures.idle, c.in-Ok.ensures.parked.0 ∙ waits, c.in-Ok.ensures.parked.1, c.in-Ok.ensures.others, λ x held calls past waiting moment octets written v a. c.in-Ok.ensures.late x held calls past waiting moment octets written v a)),
+      λ some. ((λ q. (refl, refl), refl), (λ q. (refl, refl)), (c.park.ensures.catalogue, refl), c.park.ensures.asks, c.park.ensures.ended, inr (refl, c.in-Ok.ensures.idle, c.in-Ok.ensures.parked.0 ∙ waits, c.in-Ok.ensures.parked.1, c.in-Ok.ensures.others, (λ x held calls past waiting moment octets written v a. c.in-Ok.ensures.late x held calls past waiting moment octets written v a), c.in-Ok.ensures.counted)),
     )

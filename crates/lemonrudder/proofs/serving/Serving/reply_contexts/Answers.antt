@@ -35,4 +35,4 @@ returns-in_err-said c =
 pub returns : goal.returns
 returns c =
     says-it c.args.ticket c.args.order c.args.octets.now c.args.self.now _ c.in_ok-order.order c.in_ok-_called._called.found (awaited_lent c.in_ok-_called._called.asked) (sym c.order_of.ensures ∙ c.in_ok-order.was) c.in_ok-_called.ensures.named
-    (refl, c.in_ok-said.ensures.0, refl, ((λ q. (refl, refl)), refl), refl, c.in_ok-said.ensures.1)
+    (refl, c.in_ok-said.ensures.0, refl, ((λ q. (refl, refl)), refl), (λ q. (refl, refl)), refl, c.in_ok-said.ensures.1)

@@ -33,6 +33,7 @@ returns c =
       c.taken_of.ensures,
       (only-noted c.args.connection s.connections c.put.new.self c.note.new.self only c.note.ensures.same, refl),
       (c.feed_within-fed.ensures.catalogue, refl),
+      c.feed_within-fed.ensures.parked,
       (
         c.feed_within-fed.ensures.place,
         c.feed_within-fed.ensures.number,
@@ -44,6 +45,7 @@ returns c =
               (feeds-late-owed families_offer x held calls past waiting n before out placed c.args.connection c.args.moment piece (fed_in f) e (c.feed_within-fed.ensures.late x held calls past waiting rests)),
           stops-where-due x held past s.setup.terms.due n c.most-most.result before (owed_on s c.args.connection) placed c.most-most.ensures old c.args.connection c.args.moment c.args.octets.now f (c.feed_within-fed.ensures.below x held calls past waiting rests),
           c.feed_within-fed.ensures.heard x held calls past waiting rests,
+          c.feed_within-fed.ensures.counted x held calls past waiting rests,
         ),
       ),
       notes-why c.args.connection c.ending-why.result _ s.connections c.put.new.self c.note.new.self c.ending-why.ensures only.0 (noted-noted s.connections c.take-due.new.self c.put.new.self c.take-due.ensures.noted c.put.ensures.noted) c.note.ensures.noted,

@@ -13,6 +13,7 @@ loop-connection-init c = record {
   idle = c.requires.idle;
   catalogue = (refl, refl);
   tickets = refl;
+  counts = refl;
   telling = refl;
   others = λ q apart. (refl, refl);
   told = λ x held calls past waiting outcome carried car st telling. ([], record { past = past; waiting = waiting }, (refl, refl, refl), st);
@@ -38,6 +39,7 @@ loop-connection-preserved c =
       idle = c.finish.ensures.idle;
       catalogue = (c.finish.ensures.catalogue.0 ∙ c.tell.ensures.catalogue.0 ∙ c.due.ensures.catalogue ∙ inv.catalogue.0, c.finish.ensures.catalogue.1 ∙ c.tell.ensures.catalogue.1 ∙ inv.catalogue.1);
       tickets = c.finish.ensures.tickets ∙ c.tell.ensures.tickets ∙ c.due.ensures.asks ∙ inv.tickets;
+      counts = c.finish.ensures.counts ∙ c.tell.ensures.counts ∙ c.due.ensures.counts ∙ inv.counts;
       telling = (c.finish.ensures.parked c.args.number).1 ∙ (c.tell.ensures.parked c.args.number).1 ∙ (c.in-Some.ensures.parked c.args.number).1 ∙ inv.telling;
       others = λ q apart.
           let a = c.tell.ensures.parked q in

@@ -4,6 +4,7 @@ use Rattle.ft_log.specs.Performed.{Performed}
 use Rattle.ft_objects.specs.Families.{families_offer}
 use Rattle.ft_orb.specs.declared.parked.Waiter.{Waiter}
 use Rattle.ft_orb.specs.Deeds.{Told}
+use Rattle.ft_orb.specs.Engines.{counts_in}
 use Rattle.ft_orb.specs.History.{Event}
 use Rattle.ft_orb.specs.Parking.{Settings, Stays, left_in, parked_in, told_in}
 use Rattle.ft_orb.specs.Requests.{Call}
@@ -19,6 +20,7 @@ invariant-loop-connection l = record {
   idle : IsIdle l.self;
   catalogue : KeepsCatalogue l.fn.self l.self;
   tickets : KeepsTickets l.fn.self l.self;
+  counts : counts_in l.self.engine ≡ counts_in l.fn.self.engine;
   telling : told_in l.self.engine l.number ≡ told_in l.fn.self.engine l.number;
   others : (q : ℕ) → (q == l.number) ≡ false → (parked_in l.self.engine q ≡ parked_in l.fn.self.engine q) × (told_in l.self.engine q ≡ told_in l.fn.self.engine q);
   told : (x : Settings) (held : ℕ → Holding) (calls : List Call) (past : List Event) (waiting : ℕ → List Waiter) (outcome : Performed) (carried : Waiter → Contexts) → Carries (map item_at l.contexts) outcome carried → Stays families_offer x held calls l.fn.self.engine past waiting

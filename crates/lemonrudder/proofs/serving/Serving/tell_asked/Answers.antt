@@ -6,6 +6,7 @@ use Rattle.ft_orb.specs.Parking.{DeclinesLate}
 use Rattle.lemonrudder.specs.Connected.{owed_in}
 use Rattle.lemonrudder.specs.Serves.{owed_on}
 use Rattle.lemonrudder.proofs.Asked.{asked-idle, carry, found-there, only-only}
+use Rattle.lemonrudder.proofs.Ending.{ends-declined}
 use Rattle.lemonrudder.proofs.Noting.{noted-noted, notes-why, only-noted}
 use Rattle.lemonrudder.proofs.OwingLate.{declines-late-owed}
 use Rattle.lemonrudder.proofs.serving.Serving.tell_asked.Goals as goal
@@ -30,11 +31,12 @@ returns-in-Ok c =
       e.idle,
       (only-noted c.args.connection s.connections c.put.new.self c.note.new.self only c.note.ensures.same, refl),
       (e.catalogue, refl),
-      e.asks,
+      (e.asks, e.parked, e.counted),
       λ x held calls past waiting moment octets written w asks.
           carry (λ a b. DeclinesLate families_offer x held calls past waiting moment octets written w refusal c.tell-told.new.self a b) (drop n before) (drop n out) (owed_on s c.args.connection) (owed_in c.note.new.self c.args.connection) old new
           (declines-late-owed families_offer x held calls past waiting n before out placed moment octets written w refusal c.tell-told.new.self (c.in-Ok.ensures.late x held calls past waiting moment octets written w asks)),
       noted,
+      c.in-Ok.ensures.ended,
     )
 
 pub returns-in-Err : goal.returns-in-Err
@@ -53,7 +55,7 @@ returns-in-Err c =
       e.idle,
       (only-noted c.args.connection s.connections c.put.new.self c.note.new.self only c.note.ensures.same, refl),
       (e.catalogue, refl),
-      e.asks,
+      (e.asks, e.parked, e.counted),
       (
         new ∙ (ap (drop d.taken) none ∙ old),
         handled_in s.engine,
@@ -62,6 +64,7 @@ returns-in-Err c =
         c.in-Err.ensures.due,
       ),
       noted,
+      ends-declined c.args.number c.args.connection s.engine c.tell-told.new.self c.in-Err.error _ _ c.requires.found c.in-Err.ensures.err (λ w is. c.in-Err.ensures.short w is),
     )
 
 pub invariant_of-self : goal.invariant_of-self

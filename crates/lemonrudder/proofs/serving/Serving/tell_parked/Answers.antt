@@ -25,7 +25,7 @@ returns c = (
       c.tell_all.ensures.done (subst (λ (o : Option Performed). IsSome o) (sym c.tell_parked.ensures.told) refl),
       λ q apart. let a = c.tell_all.ensures.others q apart in let b = c.tell_parked.ensures.others q apart in (a.0 ∙ b.0, a.1 ∙ b.1),
     ),
-    λ x held calls past waiting st.
+    (λ x held calls past waiting st.
         let y = c.tell_parked.ensures.late x held calls past waiting st in
         let so = c.tell_all.ensures.late x held calls (Withdrew y.i ∷ past) waiting (performed_in c.args.outcome) (λ w. []) (carries-none (performed_in c.args.outcome)) y.stays c.tell_parked.ensures.told in
         let same = y.stays.parks.once so.i y.i c.args.number so.taken y.taken so.was y.was in (
@@ -37,6 +37,7 @@ returns c = (
           told-from x held calls c.args.number (λ w. []) (performed_in c.args.outcome) so.told _ so.last c.args.self.now _ c.tell_all.new.self refl refl so.are_told,
           so.none,
           subst (λ (i : ℕ). Stays families_offer x (put_at i (known (performed_in c.args.outcome)) held) calls c.tell_all.new.self.engine so.last.past so.last.waiting) same so.stays,
-        ),
+        )),
+    c.tell_all.ensures.counts ∙ c.tell_parked.ensures.counted,
   ),
 )

@@ -11,7 +11,7 @@ returns-then-is_asking c = (λ some. (refl, refl), λ idle. absurd (not_both _ (
 pub returns : goal.returns
 returns c = (
   λ some. absurd (not_so c.if-is_asking.false (c.is_asking.ensures.1 some)),
-  λ idle. (refl, (c.tick.ensures.idle, (λ q. (refl, refl), refl), λ q. (refl, refl), (c.tick.ensures.catalogue, refl), c.tick.ensures.asks, c.tick.ensures.clock, c.tick.ensures.forgotten, c.tick.ensures.late)),
+  λ idle. (refl, (c.tick.ensures.idle, (λ q. (refl, refl), refl), λ q. (refl, refl), (c.tick.ensures.catalogue, refl), (c.tick.ensures.asks, c.tick.ensures.parked, c.tick.ensures.counts), c.tick.ensures.clock, c.tick.ensures.forgotten, c.tick.ensures.late, c.tick.ensures.ended)),
 )
 
 pub invariant_of-self : goal.invariant_of-self
