@@ -3,7 +3,7 @@
     <!-- made of: PATH -->                  the file
     <!-- made of: PATH NAME -->             what declares NAME, with the comment before it: a function, a type, a
                                             definition, a `ghost` line; or `impl ..`, in these words; in C and C++ a
-                                            function
+                                            function; in Python a function or a class
     <!-- made of: PATH NAME to NAME -->     from the first of these to the end of the last
 
 Such a mark stands before a block of code, and `<!-- end -->` after it. What stands between them is written by
@@ -25,7 +25,9 @@ DECLARING = r"pub|pub\(crate\)|abbrev|unfoldable|data|record|fn|struct|enum|trai
 def head_of(lines: list[str], name: str, language: str) -> int:
     """The index of the one line that declares a name."""
     word = re.escape(name)
-    if language in ("c", "cpp"):
+    if language == "python":
+        head = re.compile(rf"^ *(?:(?:async )?def|class) {word}\b")
+    elif language in ("c", "cpp"):
         head = re.compile(rf"^ *(?!return)(?:{TYPE})+{word}\(.*{{$")
     else:
         head = re.compile(rf"^ *(?:(?:{DECLARING}) )+{word}(?![\w'])|^{word} [:{{]")
@@ -43,11 +45,16 @@ def first_of(lines: list[str], head: int) -> int:
     return first
 
 
-def last_of(lines: list[str], head: int) -> int:
-    """Where what a head declares ends: in its line, at its closing brace, or, of a definition, before an empty line."""
+def last_of(lines: list[str], head: int, language: str) -> int:
+    """Where what a head declares ends: in its line, at its closing brace, or, of a definition, before an empty line; in
+    Python before the next line that is not indented more."""
+    indent = re.match(" *", lines[head])[0]
+    if language == "python":
+        inner = [index for index in range(head + 1, len(lines)) if lines[index].strip()]
+        end = next((index for index in inner if not lines[index].startswith(indent + " ")), len(lines))
+        return max(index for index in inner if index < end)
     if lines[head].endswith((";", "{}")):
         return head
-    indent = re.match(" *", lines[head])[0]
     is_definition = " : " in lines[head] and not re.search(r"\bfn\b", lines[head])
     for index in range(head, len(lines)):
         ends = not (lines + [""])[index + 1] if is_definition else lines[index].startswith(indent + "}")
@@ -63,7 +70,7 @@ def part_of(text: str, words: str | None, language: str) -> str:
     lines = text.rstrip("\n").split("\n")
     begins, _, ends = words.partition(" to ")
     first = first_of(lines, head_of(lines, begins, language))
-    last = last_of(lines, head_of(lines, ends or begins, language))
+    last = last_of(lines, head_of(lines, ends or begins, language), language)
     return "".join(line + "\n" for line in lines[first : last + 1])
 
 

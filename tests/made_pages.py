@@ -177,6 +177,15 @@ class Quotes(unittest.TestCase):
                 self.assertTrue(part in text and part.startswith(front) and part.endswith(end), part)
                 self.assertEqual(part.count("\n"), count)
 
+    def test_python(self) -> None:
+        """A class or a function ends where what follows is not indented more."""
+        lines = ["class One:", "    x = 1", "", "    async def two(self):", "        pass", "", "    def three(self):",
+                 "        pass", "", "", "y = 2"]
+        text = "\n".join(lines) + "\n"
+        for name, first, last in (("One", 0, 8), ("two", 3, 5), ("three", 6, 8), ("two to three", 3, 8)):
+            with self.subTest(name):
+                self.assertEqual(quoted.part_of(text, name, "python"), "".join(f"{one}\n" for one in lines[first:last]))
+
     def test_names_that_are_not_one(self) -> None:
         """A name that nothing declares, and one that two lines declare."""
         for text, name in ((SOURCE, "second"), (SOURCE + "fn last() {}\n", "last")):

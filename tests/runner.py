@@ -31,7 +31,7 @@ OF_PROGRAMS = [
 ]
 OF_LIBRARY = [
     "tests.embedding", "tests.embed.deeds_test", "tests.embed.first_programs", "tests.embed.python_test",
-    "tests.embed.rust_test",
+    "tests.embed.store_test", "tests.embed.durable_test", "tests.embed.rust_test",
 ]
 
 
@@ -42,7 +42,7 @@ def modules_of_tests() -> Iterator[str]:
             if name.endswith(".py"):
                 with open(os.path.join(programs.ROOT, folder, name), encoding="utf-8") as file:
                     text = file.read()
-                if re.search(r"^class .*TestCase\):$", text, re.M) and re.search(r"^    +def test\w*\(", text, re.M):
+                if re.search(r"^class .*TestCase\):$", text, re.M) and re.search(r"^    +(?:async )?def test\w*\(", text, re.M):
                     yield f"{folder}/{name[:-3]}".replace("/", ".")
 
 

@@ -1,15 +1,17 @@
 /*
- * Clients that call add(7) of a counter as fast as its replies come, each with one request outstanding:
+ * Clients that call add(7) of a counter as fast as its replies come, each with one request outstanding, or deposit 7
+ * with a bank (examples/bank.idl), each into an account of its own:
  *
- *     load PORT KEY CLIENTS THREADS MILLISECONDS plain|keyed
+ *     load PORT KEY CLIENTS THREADS MILLISECONDS plain|keyed|deposits[:SECONDS]
  *
  * PORT is one of 127.0.0.1, KEY the object key in hexadecimal digits. The requests are of GIOP 1.2 in big order; those
  * of `keyed` have FT_REQUEST, a client id for each connection, and numbers that rise, which expire a second after they
- * are sent. Each thread has its share of the connections, over poll(). A fifth of the time again passes before it counts.
+ * are sent, those of `deposits` a minute, or so many. Each thread has its share of the connections, over poll(). A
+ * fifth of the time again passes before it counts.
  *
  * It prints how many replies came in that time, how many seconds it was, the part of it for which its threads
  * were busy, and how many replies came in all. Each reply has to be one without an exception, and the greatest result
- * has to be 7 times as many as came.
+ * has to be 7 times as many as came; that of a deposit 7 times as many as its client made.
  */
 #define _DEFAULT_SOURCE
 #include <arpa/inet.h>
@@ -48,6 +50,8 @@ struct thread {
 
 static struct client clients[MOST_CLIENTS];
 static struct pollfd polls[MOST_CLIENTS];
+static bool are_deposits;
+static uint64_t lasting = 1; /* seconds */
 static double begin, end;
 
 static void fail(const char *what) {
@@ -84,9 +88,11 @@ static void make_request(struct client *client, int index, const unsigned char *
   put(out + 24, key_size, 4);
   memcpy(out + 28, key, key_size);
   at = aligned(at, 4);
-  put(out + at, 4, 4);
-  memcpy(out + at + 4, "add", 4);
-  at += 8;
+  const char *operation = are_deposits ? "deposit" : "add";
+  size_t size = strlen(operation) + 1; /* (with the NUL a multiple of 4) */
+  put(out + at, size, 4);
+  memcpy(out + at + 4, operation, size);
+  at += 4 + size;
   put(out + at, is_keyed, 4);
   at += 4;
   if (is_keyed) {
@@ -99,8 +105,15 @@ static void make_request(struct client *client, int index, const unsigned char *
     at += 32;
   }
   at = aligned(at, 8);
-  put(out + at, 7, 4);
-  client->size = at + 4;
+  if (are_deposits) {
+    put(out + at, 4, 4);
+    snprintf((char *)out + at + 4, 4, "%03x", (unsigned)index % 4096);
+    put(out + at + 8, 7, 8);
+    client->size = at + 16;
+  } else {
+    put(out + at, 7, 4);
+    client->size = at + 4;
+  }
   put(out + 8, client->size - 12, 4);
 }
 
@@ -110,7 +123,7 @@ static void ask(int fd, struct client *client) {
   if (client->number_at > 0) {
     double now = seconds(CLOCK_REALTIME);
     put(client->request + client->number_at, client->calls, 4);
-    put(client->request + client->expiration_at, FIRST_OF_1970 + (uint64_t)(now * SECOND) + SECOND, 8);
+    put(client->request + client->expiration_at, FIRST_OF_1970 + (uint64_t)(now * SECOND) + lasting * SECOND, 8);
   }
   if (send(fd, client->request, client->size, MSG_NOSIGNAL) != (ssize_t)client->size) fail("a request can't be sent");
   client->came = 0;
@@ -125,7 +138,10 @@ static int64_t take(int fd, struct client *client) {
   if (client->came < 12) return -1;
   bool is_little = (reply[6] & 1) != 0;
   size_t size = 12 + (size_t)get(reply + 8, 4, is_little);
-  if (memcmp(reply, "GIOP\1\2", 6) != 0 || reply[7] != 1 || size != 32) fail("this is no reply with a result");
+  if (memcmp(reply, "GIOP\1\2", 6) != 0 || reply[7] != 1 || size != 32) {
+    if (reply[7] == 1 && size > 60 && client->came == size) fprintf(stderr, "load: %.*s\n", (int)size - 36, reply + 28);
+    fail("this is no reply with a result");
+  }
   if (client->came < size) return -1;
   if (client->came > size || get(reply + 12, 4, is_little) != client->calls) fail("this is another reply");
   if (get(reply + 16, 8, is_little) != 0) fail("the reply is an exception, or has contexts");
@@ -142,6 +158,7 @@ static int turn(struct thread *thread, bool asks) {
     int64_t result = take(polls[index].fd, &clients[index]);
     if (result < 0) continue;
     if (result > thread->greatest) thread->greatest = result;
+    if (are_deposits && result != 7 * (int64_t)clients[index].calls) fail("a deposit did not act once");
     replies++;
     polls[index].events = asks ? POLLIN : 0;
     if (asks) ask(polls[index].fd, &clients[index]);
@@ -155,7 +172,7 @@ static void *run(void *it) {
   double busy_at_begin = -1;
   for (int index = thread->first; index < thread->first + thread->count; index++) ask(polls[index].fd, &clients[index]);
   while (open > 0) {
-    if (poll(polls + thread->first, (nfds_t)thread->count, 10000) <= 0) fail("no reply came in ten seconds");
+    if (poll(polls + thread->first, (nfds_t)thread->count, 30000) <= 0) fail("no reply came in half a minute");
     double now = seconds(CLOCK_MONOTONIC);
     bool counts = now >= begin && now < end;
     if (counts && busy_at_begin < 0) busy_at_begin = seconds(CLOCK_THREAD_CPUTIME_ID);
@@ -187,8 +204,10 @@ static int connect_all(char **words) {
     if (sscanf(words[2] + 2 * index, "%2x", &octet) != 1) fail("the key is no hexadecimal digits");
     key[index] = (unsigned char)octet;
   }
+  are_deposits = strncmp(words[6], "deposits", 8) == 0;
+  if (are_deposits) lasting = words[6][8] == ':' ? strtoul(words[6] + 9, NULL, 10) : 60;
   for (int index = 0; index < count; index++) {
-    make_request(&clients[index], index, key, size, strcmp(words[6], "keyed") == 0);
+    make_request(&clients[index], index, key, size, are_deposits || strcmp(words[6], "keyed") == 0);
     polls[index] = (struct pollfd){connect_to((uint16_t)atoi(words[1])), POLLIN, 0};
   }
   return count;
@@ -197,7 +216,7 @@ static int connect_all(char **words) {
 int main(int words_count, char **words) {
   static struct thread threads[MOST_THREADS];
   struct thread sum = {0};
-  if (words_count != 7) fail("load PORT KEY CLIENTS THREADS MILLISECONDS plain|keyed");
+  if (words_count != 7) fail("load PORT KEY CLIENTS THREADS MILLISECONDS plain|keyed|deposits[:SECONDS]");
   int count = connect_all(words), of_threads = atoi(words[4]);
   if (of_threads < 1 || of_threads > MOST_THREADS || of_threads > count) fail("a thread for each client are the most");
   double length = atof(words[5]) / 1000;
@@ -217,7 +236,7 @@ int main(int words_count, char **words) {
     sum.busy += threads[index].busy;
     if (threads[index].greatest > sum.greatest) sum.greatest = threads[index].greatest;
   }
-  if (sum.greatest != 7 * (int64_t)sum.all) fail("not each request acted once");
+  if (!are_deposits && sum.greatest != 7 * (int64_t)sum.all) fail("not each request acted once");
   printf("%llu %.6f %.3f %llu\n", (unsigned long long)sum.counted, length, sum.busy / length / of_threads,
          (unsigned long long)sum.all);
   return 0;

@@ -8,6 +8,7 @@ What there is, from the octets up:
     write_request, write_reply ..    messages as octets
     Catalogue, Engine                a server of requests that may be sent again, for a loop of your own
     Server, Client                   both ends over asyncio
+    SqliteStore, PostgresStore       where a Server keeps outcomes that outlive it; a Store of your own
 
 The shared library is looked for by the environment variable LEMONRUDDER_LIBRARY, a path; else beside this module; else
 by ctypes.util.find_library. Where it is not found, or its version is none for this module, the import fails by
@@ -55,19 +56,23 @@ from ._messages import (FT_REQUEST, Assembler, Body, FtRequest, Message, StreamE
                         write_request)
 from ._outcomes import (Expired, ForwardRequest, GiveUp, NeedsAddressing, Outcome, Refuse, SystemException,
                         UserException)
+from ._postgres import PostgresStore
 from ._references import REFERENCE, Address, Ior, Profile
 from ._servants import Operation, RawReply
 from ._server import Server
+from ._sqlite import SqliteStore
+from ._store import Kept, Store, StoreError
 from ._table import (VERSION, Completed, ContextId, Counted, Error, Fault, LocateStatus, MessageType, Order,
                      ReplyStatus, SystemName, Why, Wish)
 
 __all__ = [
     "BIG", "FT_REQUEST", "LIMIT", "LITTLE", "PARTIALS", "REFERENCE", "VERSION", "Address", "Asked", "Assembler", "Body",
     "Catalogue", "Client", "Completed", "ContextId", "Counted", "Current", "Engine", "Error", "Expired", "Fault",
-    "FormatError", "ForwardRequest", "FtRequest", "GiveUp", "Ior", "LemonrudderError", "LocateStatus", "Message",
-    "MessageType", "NeedsAddressing", "Operation", "Order", "Outcome", "Profile", "RawReply", "Reader", "Refuse",
-    "ReplyStatus", "Server", "Signature", "StreamError", "SystemException", "SystemName", "UserException", "Why",
-    "Wish", "Writer", "current", "messages", "moment_of", "now", "pack", "type_codes", "unpack", "write_cancel",
-    "write_close", "write_error", "write_ft", "write_locate_reply", "write_locate_request", "write_reply",
-    "write_request",
+    "FormatError", "ForwardRequest", "FtRequest", "GiveUp", "Ior", "Kept", "LemonrudderError", "LocateStatus",
+    "Message",
+    "MessageType", "NeedsAddressing", "Operation", "Order", "Outcome", "PostgresStore", "Profile", "RawReply", "Reader",
+    "Refuse", "ReplyStatus", "Server", "Signature", "SqliteStore", "Store", "StoreError", "StreamError",
+    "SystemException", "SystemName", "UserException", "Why", "Wish", "Writer", "current", "messages", "moment_of",
+    "now", "pack", "type_codes", "unpack", "write_cancel", "write_close", "write_error", "write_ft", "write_locate_reply",
+    "write_locate_request", "write_reply", "write_request",
 ]

@@ -3,9 +3,10 @@ from __future__ import annotations
 
 from contextvars import ContextVar
 from dataclasses import dataclass, field
-from typing import Any, Callable, Mapping, Optional, Sequence, Tuple
+from typing import Any, Awaitable, Callable, Mapping, Optional, Sequence, Tuple
 
 from ._library import Octets
+from ._outcomes import Outcome
 
 
 @dataclass(frozen=True)
@@ -33,6 +34,7 @@ class Current:
     wish: int
     _wanted: Callable[[], int] = field(repr=False, compare=False)
     _say: Callable[[Sequence[Tuple[int, Octets]]], None] = field(repr=False, compare=False)
+    _store: Optional[Callable[[Any, Any], Awaitable[Outcome]]] = field(default=None, repr=False, compare=False)
 
     @property
     def wanted(self) -> int:
@@ -45,9 +47,23 @@ class Current:
 
     def reply_contexts(self, contexts: Sequence[Tuple[int, Octets]]) -> None:
         """Ids and data of service contexts for the replies to this request, as of Engine.reply_contexts: those that
-        were said for it last. Raises ValueError or TypeError: they are none; LemonrudderError (TICKET: it is
-        answered)."""
+        were said for it last. Of a server with a store the replies to requests with FT_REQUEST go without. Raises
+        ValueError or TypeError: they are none; LemonrudderError (TICKET: it is answered)."""
         self._say(contexts)
+
+    async def store(self, transaction: Any, results: Any = None) -> Outcome:
+        """Writes the outcome of this request with its key into the store of the server, in a transaction, and returns
+        it: what the servant is to return once that is committed. Of a request without FT_REQUEST nothing is written.
+
+        results: what the servant would return, or a UserException or SystemException in place of raising it.
+
+        Raises Kept (the store has one already) and Refuse (its expiration lies before what was taken out): let these
+        end the transaction, which undoes what it did. RuntimeError: the server has no store; ValueError, TypeError,
+        LemonrudderError: they are no outcome of the operation; and what the store's database raises.
+        """
+        if self._store is None:
+            raise RuntimeError("the server has no store")
+        return await self._store(transaction, results)
 
 
 CURRENT: ContextVar[Current] = ContextVar("lemonrudder.current")

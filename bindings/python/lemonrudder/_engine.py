@@ -11,8 +11,8 @@ from ._cdr import BIG, pack
 from ._library import (LIMIT, PARTIALS, Held, LemonrudderError, Octets, Text, address_of, call, checked, copied, lent,
                        library, named, now, octets_of, structs)
 from ._messages import Body, FtRequest, listed
-from ._outcomes import Outcome, system_number
-from ._table import Completed, Counted, Error, Order, Part, ReplyStatus, ServerSetting, SystemName, Why, Wish
+from ._outcomes import Outcome, system_number, system_outcome
+from ._table import Completed, Counted, Error, Order, Part, ReplyStatus, ServerSetting, Why, Wish
 
 CONTEXTS = 64
 """How many service contexts of a request are read where nothing else is said."""
@@ -272,8 +272,7 @@ class Engine(Held):
 
     def stored_system(self, name: Union[str, int], minor: int = 0, completed: int = Completed.NO) -> Outcome:
         """.. a system exception. Raises KeyError: there is no such name; ValueError."""
-        id = f"IDL:omg.org/CORBA/{SystemName(system_number(name)).name}:1.0"
-        return Outcome(ReplyStatus.SYSTEM_EXCEPTION, BIG, pack("sLe3", id, minor, completed))
+        return system_outcome(name, minor, completed)
 
     def answer_stored(self, outcome: Outcome, *, ticket: Optional[int] = None) -> None:
         """Answers by a stored outcome of the request, in another process too. Errors as of answer_raw."""

@@ -4,10 +4,11 @@ from __future__ import annotations
 from dataclasses import dataclass
 from typing import Optional, Sequence, Union
 
+from ._cdr import BIG, pack
 from ._library import named
 from ._messages import Body
 from ._references import Ior
-from ._table import Completed, SystemName
+from ._table import Completed, ReplyStatus, SystemName
 
 
 @dataclass(frozen=True)
@@ -87,6 +88,17 @@ class ForwardRequest(Exception):
 
 class NeedsAddressing(Exception):
     """A server wants another addressing than by the object key."""
+
+
+def system_outcome(name: Union[str, int], minor: int, completed: int) -> Outcome:
+    """A system exception as an outcome. Raises KeyError: there is no such name; ValueError."""
+    id = f"IDL:omg.org/CORBA/{SystemName(system_number(name)).name}:1.0"
+    return Outcome(ReplyStatus.SYSTEM_EXCEPTION, BIG, pack("sLe3", id, minor, completed))
+
+
+def known_name(name: str) -> str:
+    """The name of a system exception; UNKNOWN where a server does not have it."""
+    return name if name in SystemName.__members__ else "UNKNOWN"
 
 
 def system_number(name: Union[str, int]) -> int:

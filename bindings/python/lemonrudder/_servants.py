@@ -1,14 +1,19 @@
 """The objects of a Server: what performs their operations, and the types of these."""
 from __future__ import annotations
 
-from dataclasses import dataclass
+from dataclasses import dataclass, replace
 from typing import Any, Callable, Dict, Mapping, NamedTuple, Optional, Sequence, Tuple, Union
 
 from ._catalogue import Catalogue, Fronts, Signature
-from ._cdr import BIG, parsed
+from ._cdr import BIG, pack, parsed
+from ._engine import Asked
 from ._library import LemonrudderError, Octets
 from ._messages import Body
+from ._outcomes import Outcome, Refuse
 from ._table import Error, ReplyStatus
+
+# every object is one
+_OBJECT = "IDL:omg.org/CORBA/Object:1.0"
 
 Operation = Union[Tuple[str, str], Tuple[str, str, Callable[..., Any]], Callable[[Body], Any]]
 """The formats of arguments and results, and the function where it is no method of the servant; or a function of a
@@ -53,6 +58,15 @@ class Servant:
         except BaseException:
             catalogue.remove(key)
             raise
+
+
+@dataclass(frozen=True)
+class Judged:
+    """A request with its arguments, and what performs it; or, where nothing does, what it is answered or refused by."""
+
+    asked: Asked
+    performer: Optional[Performer]
+    answer: Union[Outcome, Refuse, None] = None
 
 
 def _performer(name: str, operation: Operation, raises: Mapping[str, str], servant: Any,
@@ -155,3 +169,24 @@ class Offer:
         if self.default is None:
             raise KeyError((key, operation))
         return self.default
+
+    def judged(self, asked: Asked) -> Judged:
+        """What becomes of a request that an engine took as raw, whatever it asks for."""
+        servant = self.found(asked.key)
+        if servant is None:
+            return Judged(asked, self.default, None if self.default is not None else Refuse("OBJECT_NOT_EXIST"))
+        performer = servant.operations.get(asked.operation)
+        try:
+            if performer is not None:
+                signature = performer.signature
+                if signature is not None:
+                    asked = replace(asked, arguments=asked.body.unpack(signature.arguments))
+                return Judged(asked, performer)
+            if servant.ids and asked.operation == "_non_existent":
+                return Judged(asked, None, Outcome(ReplyStatus.NO_EXCEPTION, BIG, pack("?", False)))
+            if servant.ids and asked.operation == "_is_a":
+                is_one = asked.body.unpack("s")[0] in (*servant.ids, _OBJECT)
+                return Judged(asked, None, Outcome(ReplyStatus.NO_EXCEPTION, BIG, pack("?", is_one)))
+        except LemonrudderError:
+            return Judged(asked, None, Refuse("MARSHAL"))
+        return Judged(asked, None, Refuse("BAD_OPERATION"))

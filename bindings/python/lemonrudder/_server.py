@@ -7,12 +7,14 @@ from functools import partial
 from typing import Any, Callable, Dict, List, Mapping, Optional, Sequence, Tuple, Union
 
 from ._connection import PEER_ENDED, Connection
-from ._engine import Catalogue, Engine
+from ._durable import Durable
+from ._engine import Asked, Catalogue, Engine
 from ._library import LIMIT, PARTIALS, LemonrudderError, Text, octets_of
 from ._lines import ENDED, REFUSED, Lines
 from ._messages import Body
 from ._references import Ior
-from ._servants import Offer, Operation, Performer, described
+from ._servants import Judged, Offer, Operation, Performer, described
+from ._store import Store
 from ._table import Error, Why
 from ._works import GRACE, Works
 
@@ -58,6 +60,14 @@ class Server:
     connection that has been silent. write_timeout: the seconds that a peer may take nothing of what is due. None: as
     long as it likes.
 
+    store: where outcomes are kept that outlive the process; without one they end with it. Each request with FT_REQUEST
+    is looked up there first, and no other is performed but in place of one of which it has nothing. A servant writes
+    its outcome in the transaction of what it does, by current().store. One that does not has it written afterwards:
+    that is for those that change nothing. An exception that it raises undoes its transaction, and is written so too.
+    While the store can't be used, requests with FT_REQUEST are answered TRANSIENT. capacity and share then count for
+    nothing, and each locate is answered that the object is here. purge_every: the seconds after which
+    outcomes that expired are taken out, again and again; None: never.
+
     The logger `lemonrudder` has a line for each connection that ends, and why: at DEBUG where its peer or the server
     ended it. Of requests that are refused it has the first one of a connection and reason, and each second how many
     more there were.
@@ -67,19 +77,22 @@ class Server:
                  share: Optional[int] = None, *, max_parked: int = 1024, max_parked_of: int = 64, max_joined: int = 8,
                  max_due: int = 65536, max_client_id: int = 256, max_connections: int = 1000,
                  timeout: Optional[float] = None, idle_timeout: Optional[float] = 300.0,
-                 write_timeout: float = 60.0) -> None:
+                 write_timeout: float = 60.0, store: Optional[Store] = None,
+                 purge_every: Optional[float] = 60.0) -> None:
         self.is_closed = False
         self.max_connections, self.timeout, self.idle_timeout = max_connections, timeout, idle_timeout
         self.write_timeout = write_timeout
         self.log = logging.getLogger("lemonrudder")
         self._lines = Lines(self.log)
-        self._terms = (limit, partials, capacity, share)
+        # (with a store nothing is kept, but each request that is parked, or is to be, takes a place)
+        self._terms = (limit, partials, capacity, share) if store is None else (limit, partials, max_parked + 1, None)
         self._limits = {"max_parked": max_parked, "max_parked_of": max_parked_of, "max_joined": max_joined,
                         "max_due": max_due, "max_client_id": max_client_id}
         # what is on offer; before `listen` a catalogue says whether it can be
         self._offer, self._trial = Offer(), Catalogue()
         self._connections: Dict[int, Connection] = {}
         self._works = Works(self, max_parked)
+        self._durable = None if store is None else Durable(self, store, purge_every)
         # who waits for a place, in order
         self._waiting: Dict[Connection, None] = {}
         self._refused = dict.fromkeys(REFUSED, 0)
@@ -165,11 +178,14 @@ class Server:
             raise LemonrudderError(Error.EMPTY, "the server is closed")
         loop = self._loop = asyncio.get_running_loop()
         if self._engine is None:
-            with self._offer.catalogue() as catalogue:
+            with self._catalogue() as catalogue:
                 self._engine = Engine(catalogue, *self._terms, **self._limits)
-            self._trial.close()
+            if self._durable is None:
+                self._trial.close()
             self._ended, self._emptied = loop.create_future(), loop.create_future()
             self._sweep()
+            if self._durable is not None:
+                self._durable.begin()
         listener = await loop.create_server(lambda: Connection(self), host, port, **options)
         self._listeners.append(listener)
         self._addresses.append((host, listener.sockets[0].getsockname()[1]))
@@ -218,7 +234,7 @@ class Server:
 
     def _change(self, change: Callable[[Catalogue], None]) -> None:
         """Changes one object of what is on offer."""
-        if self._engine is None:
+        if self._engine is None or self._durable is not None:
             change(self._trial)
             return
         with self._swappable() as catalogue:
@@ -231,7 +247,9 @@ class Server:
     def _put(self, offer: Offer) -> None:
         """Puts other things on offer."""
         with offer.catalogue() as catalogue:
-            if self._engine is not None:
+            if self.is_closed:
+                raise LemonrudderError(Error.EMPTY, "the server is closed")
+            if self._engine is not None and self._durable is None:
                 self._swappable().close()
                 self._engine.swap(catalogue)
         self._offer = offer
@@ -243,6 +261,21 @@ class Server:
         if self._engine.asked() is not None:
             self._engine.park()
         return Catalogue()
+
+    def _catalogue(self) -> Catalogue:
+        """What its engine has on offer. With a store that is all that there may be: what the store has is answered
+        first, also of what is no more."""
+        if self._durable is None:
+            return self._offer.catalogue()
+        catalogue = Catalogue()
+        catalogue.add_default()
+        return catalogue
+
+    def _judged(self, asked: Asked) -> Judged:
+        """What becomes of the request that waits. Raises KeyError: there is nothing of its name."""
+        if self._durable is None:
+            return Judged(asked, self._offer.performer(asked.key, asked.operation))
+        return self._offer.judged(asked)
 
     # ---- connections ----
 
@@ -377,6 +410,8 @@ class Server:
             if not connection.transport.is_closing():
                 connection.transport.abort()
         self._works.cancel()
+        if self._durable is not None:
+            self._durable.end()
         self._lines.flush()
         self._trial.close()
         if self._engine is not None:

@@ -16,9 +16,9 @@ from ._current import CURRENT, Current
 from ._engine import Asked
 from ._library import LemonrudderError, Octets
 from ._messages import listed
-from ._outcomes import GiveUp, Refuse, SystemException, UserException
-from ._servants import Performer, RawReply
-from ._table import Completed, Error, SystemName
+from ._outcomes import GiveUp, Outcome, Refuse, SystemException, UserException, known_name, system_outcome
+from ._servants import Judged, RawReply
+from ._table import Completed, Error
 
 if TYPE_CHECKING:
     from ._server import Server
@@ -60,9 +60,10 @@ class Works:
             asked = engine.asked()
             if asked is None:
                 return False
-            if engine.identify(asked.ticket):
+            if self._server._durable is None and engine.identify(asked.ticket):
                 return True
-            performer = self._server._offer.performer(asked.key, asked.operation)
+            judged = self._server._judged(asked)
+            asked, performer = judged.asked, judged.performer
             current = self._current(asked, connection)
         except (LemonrudderError, KeyError) as error:
             # (memory is short, as when a part is read: nothing was done)
@@ -71,6 +72,12 @@ class Works:
             return True
         token = CURRENT.set(current)
         try:
+            if self._is_durable(asked):
+                self._begin(judged, connection, self._server._durable.perform(judged))
+                return True
+            if performer is None:
+                self._answer_judged(judged, connection)
+                return True
             arguments = (asked.body,) if asked.arguments is None else asked.arguments
             try:
                 returned = performer.function(*arguments)
@@ -80,7 +87,7 @@ class Works:
                     raise
             else:
                 if inspect.isawaitable(returned):
-                    self._begin(asked, connection, performer, returned)
+                    self._begin(judged, connection, returned)
                 else:
                     self._return(asked, returned)
         finally:
@@ -94,7 +101,19 @@ class Works:
         contexts = self._server._engine.contexts() if asked.contexts else ()
         return Current(asked.key, asked.operation, ft and ft.client, ft and ft.retention_id, ft and ft.expiration,
                        connection.number, connection.peer, connection.certificate, contexts, asked.request_id,
-                       asked.version, asked.wish, lambda: self._wanted(ticket), partial(self._say, ticket))
+                       asked.version, asked.wish, lambda: self._wanted(ticket), partial(self._say, ticket),
+                       self._server._durable and partial(self._server._durable.put, asked))
+
+    def _is_durable(self, asked: Asked) -> bool:
+        """Whether the outcome of a request is kept in the server's store, and not here."""
+        return asked.ft is not None and self._server._durable is not None
+
+    def _answer_judged(self, judged: Judged, connection: Connection) -> None:
+        """Answers the request that waits and is not performed."""
+        if isinstance(judged.answer, Refuse):
+            self._raise(judged.asked, judged.answer, connection)
+        else:
+            self._return(judged.asked, judged.answer)
 
     def _waits(self, ticket: int) -> bool:
         """Whether this is the request that waits."""
@@ -117,8 +136,9 @@ class Works:
         else:
             raise LemonrudderError(Error.TICKET)
 
-    def _begin(self, asked: Asked, connection: Connection, performer: Performer, returned: Awaitable[Any]) -> None:
+    def _begin(self, judged: Judged, connection: Connection, returned: Awaitable[Any]) -> None:
         """Parks the request that waits, for a task to perform it; refuses it where that can't be."""
+        asked, performer = judged.asked, judged.performer
         why = None
         if len(self.works) >= self._most:
             why = f"{self._most} operations are under way already (max_parked)"
@@ -134,16 +154,16 @@ class Works:
                                       connection, why)
             if coroutine is not None:
                 coroutine.close()
-                self._answer(asked, "UNKNOWN", self._server._engine.refuse, "TRANSIENT")
+                self._refuse(asked)
             else:
                 # (what was begun elsewhere has perhaps acted)
                 asyncio.ensure_future(returned).cancel()
-                self._answer(asked, "UNKNOWN", self._server._engine.raise_system, "NO_RESOURCES", 0, Completed.MAYBE)
+                self._answer(asked, "UNKNOWN", partial(self._doubt, asked), "NO_RESOURCES")
             return
         work = _Work(asked, connection, asyncio.ensure_future(returned), coroutine)
         self.works[asked.ticket] = work
         connection.works += 1
-        timeout = self._server.timeout if performer.timeout is None else performer.timeout
+        timeout = self._server.timeout if performer is None or performer.timeout is None else performer.timeout
         if timeout is not None:
             work.timer = self._server._loop.call_later(timeout, self.cut, work, "TIMEOUT")
         work.task.add_done_callback(partial(self._done, work))
@@ -208,11 +228,11 @@ class Works:
         write, operation = partial(self._server._lines.write, work.connection), work.asked.operation
         if not work.had_begun:
             write(logging.INFO, "%a is refused: it was not begun", operation)
-            self._answer(work.asked, "UNKNOWN", self._server._engine.refuse, "TRANSIENT")
+            self._refuse(work.asked)
         else:
             name = work.cut or "UNKNOWN"
             write(logging.WARNING, "%a was cancelled: it is answered %s, COMPLETED_MAYBE", operation, name)
-            self._answer(work.asked, "UNKNOWN", self._server._engine.raise_system, name, 0, Completed.MAYBE)
+            self._answer(work.asked, "UNKNOWN", partial(self._doubt, work.asked), name)
 
     def _abandon(self, work: _Work) -> None:
         """Answers the request of an operation that was cut off and does not end."""
@@ -233,11 +253,12 @@ class Works:
                 engine.give_up()
             else:
                 answer(engine.refuse, name, raised.minor if isinstance(raised, Refuse) else 0)
+        elif isinstance(raised, UserException) and self._server._durable is not None:
+            answer(partial(self._hand_in, asked), raised)
         elif isinstance(raised, UserException):
             answer(engine.raise_user, raised.id, *raised.values)
         elif isinstance(raised, SystemException):
-            name = raised.name if raised.name in SystemName.__members__ else "UNKNOWN"
-            answer(engine.raise_system, name, raised.minor, raised.completed)
+            answer(engine.raise_system, known_name(raised.name), raised.minor, raised.completed)
         else:
             write(logging.ERROR, "%a raised %s", asked.operation, type(raised).__name__, error=raised)
             self._fail(asked, "UNKNOWN")
@@ -248,7 +269,10 @@ class Works:
 
     def _hand_in(self, asked: Asked, returned: Any, ticket: int) -> None:
         """Hands in what a function returned."""
-        if asked.arguments is not None:
+        if isinstance(returned, Outcome) or self._server._durable is not None:
+            outcome = returned if isinstance(returned, Outcome) else self._server._durable.outcome(asked, returned)
+            self._answer_by(asked, outcome, ticket)
+        elif asked.arguments is not None:
             results = self._server._offer.performer(asked.key, asked.operation).signature
             self._server._engine.answer(*results_of(results.results if results else "", returned), ticket=ticket)
         elif isinstance(returned, RawReply):
@@ -260,7 +284,8 @@ class Works:
         """Answers a request; by a system exception of that name where that is no outcome of its operation."""
         contexts = self._contexts.pop(asked.ticket, None)
         try:
-            if contexts is not None:
+            # (what is not kept goes without)
+            if contexts is not None and not self._is_durable(asked):
                 self._server._engine.reply_contexts(contexts, ticket=asked.ticket)
             answer(*arguments, ticket=asked.ticket)
         except BaseException as error:
@@ -277,11 +302,25 @@ class Works:
         the request must not be asked again."""
         self._contexts.pop(asked.ticket, None)
         try:
-            self._server._engine.raise_system(name, 0, Completed.MAYBE, ticket=asked.ticket)
+            self._doubt(asked, name, ticket=asked.ticket)
         except LemonrudderError as error:
             if error.number != Error.LOST:
                 self._server._stop(error)
             raise
+
+    def _doubt(self, asked: Asked, name: str, *, ticket: int) -> None:
+        """Answers by a system exception, COMPLETED_MAYBE: a store may have another outcome."""
+        self._answer_by(asked, system_outcome(name, 0, Completed.MAYBE), ticket)
+
+    def _answer_by(self, asked: Asked, outcome: Outcome, ticket: int) -> None:
+        """Answers by an outcome, which is kept here where no store has it."""
+        engine = self._server._engine
+        (engine.answer_unkept if self._is_durable(asked) else engine.answer_stored)(outcome, ticket=ticket)
+
+    def _refuse(self, asked: Asked) -> None:
+        """Refuses a request that was not begun, by TRANSIENT. Whether a store has it is not known then."""
+        refuse = partial(self._doubt, asked) if self._is_durable(asked) else self._server._engine.refuse
+        self._answer(asked, "UNKNOWN", refuse, "TRANSIENT")
 
     def cut_all(self, name: str) -> None:
         """Cuts all off that are under way and were not."""
