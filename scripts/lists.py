@@ -159,6 +159,14 @@ LISTS = [
         (("ft_ends", "both_ends_act_once"),),
     ),
     Listing(
+        "Over restarts",
+        "From the laws of lives over one store, and the clause `once` of `perform_once`.",
+        (("ft_lives", "perform_once", ("once",)),),
+        (),
+        (("ft_lives", "keys_commit_once"), ("ft_lives", "commits_were_admitted"), ("ft_lives", "replies_are_held"),
+         ("ft_lives", "refused_are_free"), ("ft_lives", "commits_are_serial")),
+    ),
+    Listing(
         "The layer models",
         "What is left of the clauses of `read` and `write`, `read_ior`, `read_message`, `Assembler::feed`, `Log::find`"
         " and `keep`, and of what a client hears.",
@@ -178,6 +186,6 @@ LISTS = [
 LAYERS = 11
 # from the top down
 FLOORS = [
-    "ft_ends", "ft_client", "ft_orb", "ft_objects", "ft_log", "giop_link", "giop_frames", "giop_core", "ior_core",
+    "ft_lives", "ft_ends", "ft_client", "ft_orb", "ft_objects", "ft_log", "giop_link", "giop_frames", "giop_core", "ior_core",
     "cdr_core",
 ]
