@@ -315,6 +315,10 @@ class OverPostgres(unittest.TestCase):
         cls.postgres = Postgres()
         cls.addClassCleanup(cls.postgres.close)
 
+    def setUp(self):
+        # (W of one test lies in the future of others)
+        self.postgres.asked("DROP TABLE IF EXISTS outcome, forgotten, account")
+
     def bank(self, language):
         return Bank(language, self.postgres.address)
 
@@ -341,7 +345,6 @@ class OverPostgres(unittest.TestCase):
         """Whatever clock a later life has, or another bank on the same database."""
         def count(name):
             return int(self.postgres.asked(f"SELECT count(*) FROM outcome WHERE client = '{name}'"))
-        self.postgres.asked("DROP TABLE IF EXISTS forgotten, outcome")
         with self.bank(language) as bank, self.bank(language) as other:
             asyncio.run(forgotten(bank, other, count, f"{language}-forgotten"))
 
