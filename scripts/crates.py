@@ -24,7 +24,7 @@ SECONDS = {
     "ft_objects": 82,
     "ft_orb": 900,
     "ft_ends": 200,
-    "ft_lives": 60,
+    "ft_lives": 95,
     "ft_tcp": 48,
     "lemonrudder": 635,
     "counter": 40,

@@ -160,10 +160,10 @@ LISTS = [
     ),
     Listing(
         "Over restarts",
-        "From the laws of lives over one store, and the clause `once` of `perform_once`.",
+        "From the laws of lives over one store, `lives_act_once` above all, and the clause `once` of `perform_once`.",
         (("ft_lives", "perform_once", ("once",)),),
         (),
-        (("ft_lives", "keys_commit_once"), ("ft_lives", "commits_were_admitted"), ("ft_lives", "replies_are_held"),
+        (("ft_lives", "lives_act_once"), ("ft_lives", "commits_were_admitted"), ("ft_lives", "replies_are_held"),
          ("ft_lives", "refused_are_free"), ("ft_lives", "commits_are_serial")),
     ),
     Listing(

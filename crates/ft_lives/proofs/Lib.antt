@@ -6,6 +6,7 @@ mod Heard
 mod Sound
 mod Standing
 mod Repeated
+mod Together
 mod Serial
 mod Tried
 mod Keeping

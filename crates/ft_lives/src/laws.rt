@@ -7,9 +7,19 @@ ghost use Rattle.ft_lives.specs.Laws.{CommitsComeLater, CommitsWereAdmitted, Hel
 ghost use Rattle.ft_lives.specs.Lives.{Life};
 ghost use Rattle.ft_lives.specs.Replies.{DeclinedAreFree, RefusedAreFree, RepeatsAreHeld, ToldAreHeld};
 ghost use Rattle.ft_lives.specs.Serial.{SerialIsOfCommits};
+ghost use Rattle.ft_lives.specs.Together.{LivesActOnce};
 
 use crate::store::Store;
 use ft_objects::Servant;
+
+/// The law over lives, of each key whose requests carry one expiration in all of them: at most one call is committed; it was
+/// asked for before, by an arrival that was not over; and each outcome that a life gives for the key, at once, later or
+/// again, is that of the one commit.
+pub fn lives_act_once()
+    ensures { (lives : ℕ → Life) → LivesActOnce lives }
+{
+    giop_link::laws::streams_are_heard::<giop_link::Server>();
+}
 
 /// No two commits have one key, where the requests with that key carry one expiration in all lives, and what the store held
 /// for it at any point is the outcome of the one commit. Without that premise the second of two commits has the greater
