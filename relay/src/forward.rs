@@ -67,7 +67,7 @@ pub fn request_of(message: &mut Message<'_>) -> Result<Request, Outcome> {
     let contexts = message.contexts().collect::<Result<Contexts, Error>>();
     let mut contexts = contexts.map_err(|_| refused("NO_MEMORY"))?;
     let is_keyed = contexts.iter().any(|(id, _)| *id == FT_REQUEST);
-    if is_keyed && ft.as_ref().map_or(true, |ft| ft.key.client.len() > CLIENT) {
+    if is_keyed && ft.as_ref().is_none_or(|ft| ft.key.client.len() > CLIENT) {
         return Err(refused("BAD_CONTEXT"));
     }
     contexts.retain(|(id, _)| ![FT_REQUEST, BI_DIR_IIOP, compose::PADDING].contains(id));

@@ -28,7 +28,7 @@ const LINGER: Duration = Duration::from_secs(2);
 /// How many replies are due to a peer from which on it is not heard.
 const DUE: usize = 64;
 /// How many requests of a connection are under way at most.
-const REQUESTS: usize = 256;
+const REQUESTS: u16 = 256;
 
 /// A client's connection.
 #[derive(Debug)]
@@ -202,7 +202,7 @@ async fn attends<R: Role>(
         assembler,
         sets: None,
         cancels: Cancels::default(),
-        under_way: Arc::new(Semaphore::new(REQUESTS)),
+        under_way: Arc::new(Semaphore::new(REQUESTS.into())),
         due,
     };
     let why = talk.listens(&mut reading, &mut writer).await;
@@ -335,7 +335,7 @@ impl<R: Role> Talk<R> {
 
     /// Whether nothing is under way.
     fn is_quiet(&self) -> bool {
-        self.under_way.available_permits() == REQUESTS
+        self.under_way.available_permits() == usize::from(REQUESTS)
     }
 
     /// Takes octets that came.
@@ -385,7 +385,7 @@ impl<R: Role> Talk<R> {
         let last = match why {
             Why::Fault | Why::Direction => write::message_error(),
             Why::Idle | Why::Stop => {
-                _ = self.under_way.acquire_many(REQUESTS as u32).await;
+                _ = self.under_way.acquire_many(REQUESTS.into()).await;
                 write::close_connection()
             }
             _ => return,

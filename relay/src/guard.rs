@@ -85,7 +85,8 @@ pub async fn run(settings: settings::Guard) -> Result<(), String> {
     let tls = Acceptor::open(&common.tls)?;
     let access = settings.clients.as_deref().map(Clients::read).transpose();
     let access = access.map_err(|faults| faults.join("\n"))?;
-    let store = Store::open(&settings.store, settings.lease).await.map_err(|error| error.to_string())?;
+    let store =
+        Store::open(&settings.store, settings.lease).await.map_err(|error| error.to_string())?;
     let listeners = front::listen(&common.listen).await?;
     let own = common.listen.first().and_then(|at| wire::parts_of(at)).unwrap_or_default();
     let servers = server.iter().filter_map(|at| wire::parts_of(at)).collect();

@@ -18,7 +18,7 @@ mod wire;
 use settings::{Log, Role, Words};
 use std::env;
 use std::future::Future;
-use std::io::stderr;
+use std::io::{stderr, IsTerminal};
 use std::process::ExitCode;
 use tokio::runtime::Runtime;
 use tracing_subscriber::filter::LevelFilter;
@@ -37,6 +37,7 @@ fn said(lines: &[String], status: u8) -> ExitCode {
 /// Has lines of the log printed.
 fn log(form: Log) {
     let lines = tracing_subscriber::fmt().with_writer(stderr).with_max_level(LevelFilter::INFO);
+    let lines = lines.with_ansi(stderr().is_terminal());
     match form {
         Log::Text => lines.with_target(false).init(),
         Log::Json => lines.json().init(),

@@ -362,7 +362,8 @@ async fn reads(
     mut half: ReadHalf<Stream>,
     writer: &JoinHandle<()>,
 ) -> (&'static str, Loss) {
-    let limits = Limits { message: compose::LONGEST as u32, partials: 16 };
+    let message = u32::try_from(compose::LONGEST).unwrap_or(u32::MAX);
+    let limits = Limits { message, partials: 16 };
     let Ok(mut assembler) = Assembler::open(limits) else {
         return ("memory is short", Loss::Unsent);
     };
