@@ -1,4 +1,4 @@
-"""Kills the banks of examples/bank_durable.c and .py at each point and by chance, stops them, restarts their databases,
+"""Kills the banks of examples/bank_durable.* at each point and by chance, stops them, restarts their databases,
 and looks whether each call acted once and has one answer.
 
 Each is over SQLite and over PostgreSQL, which the tests start themselves. Clients call meanwhile, over connections that
@@ -24,13 +24,20 @@ try:
 except ImportError:
     sqlite3 = None
 
-# where a bank is killed, by its language
-POINTS = {
-    "c": ["asked", "begun", "looked", "changed", "stored", "committing", "committed", "answered"],
-    "py": ["begun", "changed", "stored", "committed"],
-}
-LANGUAGES = [("in c", "c"), ("in py", "py")]
-EACH_POINT = [(f"{language} {point}", (language, point)) for language, points in POINTS.items() for point in points]
+# where a bank is killed
+POINTS = ["asked", "begun", "looked", "changed", "stored", "committing", "committed", "answered"]
+POINTS_OF_PYTHON = ["begun", "changed", "stored", "committed"]
+# over SQLite; those in C and in Python are over PostgreSQL too
+LANGUAGES = [(f"in {language}", language) for language in durable.LANGUAGES]
+OF_BOTH = [("in c", "c"), ("in py", "py")]
+
+
+def points_of(languages: list[tuple[str, str]]) -> list[tuple[str, tuple[str, str]]]:
+    """Each point of banks in languages."""
+    return [(f"{language} {point}", (language, point)) for _, language in languages
+            for point in (POINTS_OF_PYTHON if language == "py" else POINTS)]
+
+
 # how often a bank is killed by chance: in C it begins at once
 KILLS = {"c": 100, "py": 12}
 
@@ -55,7 +62,7 @@ async def killed_at(bank: Bank, point: str, name: str) -> None:
         bank.begin()
         is_over.set()
         await calling
-        if status != -signal.SIGKILL:
+        if status not in (-signal.SIGKILL, -signal.SIGABRT):
             raise AssertionError(f"it did not die at {point}: {status}")
         await judge(callers, [bank.port])
 
@@ -205,7 +212,7 @@ class OverSqlite(unittest.TestCase):
         """Counts the outcomes of a client."""
         return lambda name: self.done(path, "SELECT count(*) FROM outcome WHERE client = ?", name.encode())[0][0]
 
-    @base.each(lambda: EACH_POINT, 2)
+    @base.each(lambda: points_of(LANGUAGES), 2)
     def test_killed_at_each_point(self, given):
         """It is killed at each point, and its outcome is that of the first."""
         with self.bank(given[0]) as bank:
@@ -322,7 +329,7 @@ class OverPostgres(unittest.TestCase):
     def bank(self, language):
         return Bank(language, self.postgres.address)
 
-    @base.each(lambda: EACH_POINT)
+    @base.each(lambda: points_of(OF_BOTH))
     def test_killed_at_each_point(self, given):
         """It is killed at each point, and its outcome is that of the first."""
         with self.bank(given[0]) as bank:
@@ -340,7 +347,7 @@ class OverPostgres(unittest.TestCase):
         with self.bank("py") as one, self.bank("c") as other:
             asyncio.run(disturbed([one, other], self.postgres, 9, random.Random(seed), f"py {seed} "))
 
-    @base.each(lambda: LANGUAGES)
+    @base.each(lambda: OF_BOTH)
     def test_what_was_taken_out_is_not_performed(self, language):
         """Whatever clock a later life has, or another bank on the same database."""
         def count(name):
@@ -348,7 +355,7 @@ class OverPostgres(unittest.TestCase):
         with self.bank(language) as bank, self.bank(language) as other:
             asyncio.run(forgotten(bank, other, count, f"{language}-forgotten"))
 
-    @base.each(lambda: LANGUAGES)
+    @base.each(lambda: OF_BOTH)
     def test_the_mark_moves_under_a_lock(self, language):
         """What is performed waits for who takes out, and then sees how far; who takes out waits for it."""
         name, near = f"{language}-mark", lr.now() + 1200 * 10**7
@@ -372,7 +379,7 @@ class OverPostgres(unittest.TestCase):
             say("COMMIT")
             until(lambda: self.postgres.asked(count) == "0", "it is taken out")
 
-    @base.each(lambda: LANGUAGES)
+    @base.each(lambda: OF_BOTH)
     def test_what_is_stored_is_answered_first(self, language):
         def keep(name, number, status, order, body):
             self.postgres.asked(f"INSERT INTO outcome VALUES ('{name}', {number}, '\\xffffffffffffffff', "
@@ -380,7 +387,7 @@ class OverPostgres(unittest.TestCase):
         with self.bank(language) as bank:
             asyncio.run(recalled(bank, keep, f"{language}-stored"))
 
-    @base.each(lambda: LANGUAGES)
+    @base.each(lambda: OF_BOTH)
     def test_a_database_that_is_none(self, language):
         """It can't be written, or is of another version; then it can be used."""
         for away, back, line in (
@@ -401,7 +408,7 @@ class OverPostgres(unittest.TestCase):
                     self.postgres.asked(back)
                 until(lambda: asyncio.run(answer_of(bank, name, 3, "deposit", 7, ENDLESS)) == 7, "it is there")
 
-    @base.each(lambda: LANGUAGES)
+    @base.each(lambda: OF_BOTH)
     def test_a_database_that_is_away(self, language):
         """It is declined while it is away, and while it can't be written; then it is performed."""
         name = f"{language}-away"
