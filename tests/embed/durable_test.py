@@ -85,6 +85,23 @@ async def killed_by_chance(bank: Bank, kills: int, dice: random.Random, name: st
         await judge(callers, [bank.port])
 
 
+async def handed_over(bank: Bank, times: int, dice: random.Random, name: str) -> None:
+    """A bank ends so often, and hands over to the next."""
+    async with callers_of([bank], 8, dice, name) as (callers, relays):
+        is_over = asyncio.Event()
+        bank.begin()
+        calling = asyncio.ensure_future(call_on(callers, is_over))
+        for _ in range(times):
+            await asyncio.sleep(dice.expovariate(1 / 0.2))
+            status = await asyncio.get_running_loop().run_in_executor(None, bank.end, signal.SIGTERM)
+            assert status == 0, (status, bank.said())
+            bank.begin()
+        relays[0].is_calm = True
+        is_over.set()
+        await calling
+        await judge(callers, [bank.port])
+
+
 async def disturbed(banks: list[Bank], postgres: Postgres, rounds: int, dice: random.Random, name: str) -> None:
     """Of two banks on one database one is killed, or stopped and continued, and the database is restarted."""
     async with callers_of(banks, 8, dice, name) as (callers, relays):
@@ -312,6 +329,16 @@ class OverSqlite(unittest.TestCase):
             bank.begin()
             self.assertEqual(asyncio.run(answer_of(bank, "client", sent, "deposit", 1, ENDLESS)), sent)
             self.assertEqual(asyncio.run(answer_of(bank, "client", 1, "deposit", 1, ENDLESS)), 1)
+
+
+class InMemory(unittest.TestCase):
+    """In memory, handed over from one life to the next."""
+
+    @base.each_seed(59, 1)
+    def test_handed_over(self, seed):
+        """No call acts twice, and each has one answer, though no database has them."""
+        with contextlib.contextmanager(folders)() as folder, Bank("py", f"memory:{folder}/bank") as bank:
+            asyncio.run(handed_over(bank, 8, random.Random(seed), "client"))
 
 
 class OverPostgres(unittest.TestCase):
