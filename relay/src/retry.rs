@@ -172,7 +172,8 @@ impl Retry {
         let (key, expiration, ends) = match ft {
             None => (self.keys.next(), now + (self.timeout + SLACK), at + self.timeout),
             Some(ft) => {
-                let left = Duration::from_nanos(ft.expiration.0.saturating_sub(now.0).saturating_mul(100));
+                let left =
+                    Duration::from_nanos(ft.expiration.0.saturating_sub(now.0).saturating_mul(100));
                 (ft.key, ft.expiration, at + left.min(self.timeout))
             }
         };
@@ -301,7 +302,8 @@ async fn transmits(guard: &Arc<Upstream>, call: &mut Call) -> Result<Reply, Loss
 /// since it has no room.
 fn refused(reply: &Reply, sent: u32) -> Next {
     let mut reader = Reader::at(&reply.body.octets, reply.order, reply.body.place);
-    let (Ok(id), Ok(minor), Ok(completed)) = (reader.string(), reader.ulong(), reader.ulong()) else {
+    let (Ok(id), Ok(minor), Ok(completed)) = (reader.string(), reader.ulong(), reader.ulong())
+    else {
         return Next::Done(passed(reply));
     };
     let name = id.strip_prefix(b"IDL:omg.org/CORBA/").unwrap_or(id);

@@ -97,7 +97,11 @@ impl Upstream {
             stream.flush().await?;
             let mut reply = [0; 20];
             stream.read_exact(&mut reply).await?;
-            if reply[..4] == *b"GIOP" { Ok(()) } else { Err(io::ErrorKind::InvalidData.into()) }
+            if reply[..4] == *b"GIOP" {
+                Ok(())
+            } else {
+                Err(io::ErrorKind::InvalidData.into())
+            }
         })
         .await?
     }

@@ -58,8 +58,8 @@ static int talk(Calls_ptr calls) {
       if (back[at] != octets[at]) return 3;
   }
   Calls_var other = calls->other();
-  print("other " + call(other, "0", "other 1"));
-  print("other " + call(other, "refuse", "other 2"));
+  print("other.1 " + call(other, "0", "other.1"));
+  print("other.2 " + call(other, "refuse", "other.2"));
   return 0;
 }
 
