@@ -65,7 +65,7 @@ def orbs() -> str:
     folder = tempfile.mkdtemp(prefix="orbs-")
     commands = [[tool("omniidl"), "-bcxx", os.path.join(HERE, "calls.idl")]]
     for name in ("server", "client"):
-        commands.append([tool("g++"), "-std=c++17", "-O1", "-I.", "-o", name, os.path.join(HERE, f"orb_{name}.cc"),
+        commands.append([tool("g++"), "-std=c++17", "-O0", "-I.", "-o", name, os.path.join(HERE, f"orb_{name}.cc"),
                          "callsSK.cc", "-lomniORB4", "-lomnithread", "-pthread"])
     for words in commands:
         ran = subprocess.run(words, cwd=folder, capture_output=True, text=True, check=False)
