@@ -389,6 +389,7 @@ class Once(unittest.TestCase):
                 with Peer(guard.port) as peer:
                     peer.tell(asked)
                     until(guard.died, "it dies")
+                guard.end()
                 guard.begin()
                 known = giop.reply(1, number_body(1))
                 answer = known if point in ("before-begin", "finished", "answered") else system(1, "COMM_FAILURE", MAYBE)
