@@ -301,7 +301,8 @@ impl Read {
 
 /// The line in which the table of a role begins.
 fn line_of_table(text: &str, role: &str) -> usize {
-    let is_it = |line: &str| line.trim_start().trim_start_matches('[').trim_start().starts_with(role);
+    let is_it =
+        |line: &str| line.trim_start().trim_start_matches('[').trim_start().starts_with(role);
     1 + text.lines().position(is_it).unwrap_or(0)
 }
 
@@ -336,7 +337,11 @@ impl Words {
         }
         let words = parse(&all).map_err(|why| vec![why])?;
         let missing = words.role.missing();
-        if missing.is_empty() { Ok(words) } else { Err(missing) }
+        if missing.is_empty() {
+            Ok(words)
+        } else {
+            Err(missing)
+        }
     }
 }
 

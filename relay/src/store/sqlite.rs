@@ -4,13 +4,15 @@
 use super::writer::{Database, Done, Step};
 use super::{Begun, Error, Key, Outcome};
 use lemonrudder::Order;
-use rusqlite::{params, Connection, OptionalExtension, Result, Row, Transaction, TransactionBehavior};
+use rusqlite::{
+    params, Connection, OptionalExtension, Result, Row, Transaction, TransactionBehavior,
+};
 use std::future::pending;
 use std::path::{Path, PathBuf};
 use tracing::warn;
 
 /// What the file says that it is: of this program, in this version.
-const APPLICATION: i32 = 0x4c52_7374;
+const APPLICATION: i32 = 0x4c52_5374;
 const VERSION: i32 = 1;
 /// Rows that one transaction takes out at most.
 const CHUNK: u64 = 1000;
@@ -25,8 +27,7 @@ const TABLES: &str = "
     CREATE TABLE mark (least BLOB NOT NULL);
     INSERT INTO mark VALUES (x'0000000000000000');
 ";
-const FIND: &str =
-    "SELECT status, body_order, body FROM outcome WHERE client = ?1 AND number = ?2";
+const FIND: &str = "SELECT status, body_order, body FROM outcome WHERE client = ?1 AND number = ?2";
 const LEAST: &str = "SELECT least FROM mark";
 const BEGIN: &str = "INSERT INTO outcome (client, number, expiration) VALUES (?1, ?2, ?3)";
 const FINISH: &str = "UPDATE outcome SET status = ?3, body_order = ?4, body = ?5
@@ -36,7 +37,8 @@ const EXPIRED: &str = "SELECT expiration, client, number FROM outcome
     WHERE status IS NOT NULL AND expiration < ?1 ORDER BY expiration LIMIT ?2";
 const TAKE_OUT: &str = "DELETE FROM outcome WHERE client = ?1 AND number = ?2";
 const RAISE: &str = "UPDATE mark SET least = max(least, ?1)";
-const LOST: &str = "UPDATE outcome SET status = ?1, body_order = ?2, body = ?3 WHERE status IS NULL";
+const LOST: &str =
+    "UPDATE outcome SET status = ?1, body_order = ?2, body = ?3 WHERE status IS NULL";
 
 /// A store in a SQLite file.
 pub struct Sqlite {
@@ -156,7 +158,8 @@ impl Sqlite {
     /// `Unusable`: it is no file of this program's, or of another version; another guard has it;
     /// it can't be written.
     pub fn open(path: &Path) -> std::result::Result<Sqlite, Error> {
-        let say = |why: &dyn std::fmt::Display| Error::Unusable(format!("{}: {why}", path.display()));
+        let say =
+            |why: &dyn std::fmt::Display| Error::Unusable(format!("{}: {why}", path.display()));
         let mut link = Connection::open(path).map_err(|error| say(&error))?;
         let lost = prepare(&mut link).map_err(|error| say(&error))?.map_err(|why| say(&why))?;
         if lost > 0 {
@@ -196,5 +199,13 @@ impl Database for Sqlite {
 
     fn is_told(&mut self) -> bool {
         false
+    }
+}
+
+#[cfg(test)]
+impl Sqlite {
+    /// Has the file take so many pages at most.
+    pub fn limit(&mut self, pages: u32) {
+        self.link.pragma_update(None, "max_page_count", pages).unwrap();
     }
 }
