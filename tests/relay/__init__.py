@@ -1,1 +1,1 @@
-"""Tests of the relay."""
+"""The tests of the program `lemonrudder` of relay/."""
