@@ -8,6 +8,7 @@ mod forward;
 mod frames;
 mod front;
 mod guard;
+mod metrics;
 mod points;
 mod pool;
 mod reference;
