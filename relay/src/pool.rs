@@ -6,13 +6,14 @@
 use crate::compose::{self, Body, Contexts, Head};
 use crate::forward::{self, Answer, CODE_SETS};
 use crate::frames::{Frames, Taken};
+use crate::metrics::metrics;
 use crate::points::point;
 use crate::tls::Connector;
 use crate::wire::{self, locked, Stream};
 use lemonrudder::{write, Assembler, Completed, Limits, MessageType, Order, Version, Wish};
 use std::collections::HashMap;
 use std::io;
-use std::sync::atomic::{AtomicU32, AtomicU64, Ordering};
+use std::sync::atomic::{AtomicU32, Ordering};
 use std::sync::{Arc, Mutex};
 use std::time::{Duration, Instant};
 use tokio::io::{AsyncReadExt, AsyncWriteExt, ReadHalf, WriteHalf};
@@ -120,7 +121,6 @@ pub struct Pool {
     /// For how long a connection may be without requests.
     idle: Duration,
     classes: Mutex<HashMap<Vec<u8>, Arc<Class>>>,
-    strays: AtomicU64,
 }
 
 /// A request that was handed to a connection.
@@ -139,14 +139,7 @@ impl Pool {
         most: usize,
         idle: Duration,
     ) -> Arc<Pool> {
-        let (classes, strays) = (Mutex::default(), AtomicU64::new(0));
-        Arc::new(Pool { places, tls, most: most.max(1), idle, classes, strays })
-    }
-
-    /// How many replies came for which nobody waits any more.
-    #[must_use]
-    pub fn strays(&self) -> u64 {
-        self.strays.load(Ordering::Relaxed)
+        Arc::new(Pool { places, tls, most: most.max(1), idle, classes: Mutex::default() })
     }
 
     /// Whether a connection is there, or can be.
@@ -177,14 +170,6 @@ impl Pool {
         let due = Due::Request { id, wish: head.wish, octets, ended };
         line.due.send(due).map_err(|_| Loss::Unsent)?;
         Ok(Pending { ended: end, line, id, form: (head.version, head.order) })
-    }
-
-    /// Ends a request by its reply.
-    fn ends(&self, line: &Line, id: u32, reply: Reply) {
-        match locked(&line.waiting).requests.remove(&id) {
-            Some(ended) => _ = ended.send(Ok(Some(reply))),
-            None => _ = self.strays.fetch_add(1, Ordering::Relaxed),
-        }
     }
 
     /// A connection for requests with these code sets: the one with the fewest outstanding, or a
@@ -299,6 +284,14 @@ impl Line {
         }
     }
 
+    /// Ends a request by its reply, unless nobody waits for that any more.
+    fn answers(&self, id: u32, reply: Reply) {
+        match locked(&self.waiting).requests.remove(&id) {
+            Some(ended) => _ = ended.send(Ok(Some(reply))),
+            None => metrics().late.inc(),
+        }
+    }
+
     /// Ends a connection on which nothing waits: whether nothing did.
     fn ends_idle(&self) -> bool {
         let mut waiting = locked(&self.waiting);
@@ -399,9 +392,9 @@ async fn reads(
         while !octets.is_empty() {
             let taken = frames.take(&mut octets);
             if let Taken::Long { id, .. } = taken {
-                pool.ends(line, id, Reply::long());
+                line.answers(id, Reply::long());
             }
-            if let Err(end) = takes(pool, line, &mut assembler, taken.octets()) {
+            if let Err(end) = takes(line, &mut assembler, taken.octets()) {
                 return end;
             }
         }
@@ -418,7 +411,6 @@ fn named(error: &io::Error) -> &'static str {
 
 /// Takes octets that came on a connection: it ends where it answers an error.
 fn takes(
-    pool: &Pool,
     line: &Line,
     assembler: &mut Assembler,
     mut octets: &[u8],
@@ -433,7 +425,7 @@ fn takes(
         match message.message_type() {
             MessageType::Reply => {
                 let (id, reply) = (message.request_id(), forward::reply_of(&mut message));
-                pool.ends(line, id, reply);
+                line.answers(id, reply);
             }
             MessageType::CloseConnection => return Err(("it said CloseConnection", Loss::Closed)),
             MessageType::MessageError => return Err(("it said MessageError", Loss::Lost)),

@@ -9,6 +9,7 @@ import tempfile
 import threading
 import time
 import unittest
+import unittest.mock
 from collections.abc import Callable, Iterator
 
 from tests import base, giop
@@ -452,6 +453,18 @@ class Ends(unittest.TestCase):
             peer.tell(request(1, KEY, "slow", number=1))
             until(lambda: server.performed, "it comes")
             want(guard.end(signal.SIGTERM), 0)
+
+    def test_the_system_is_told(self):
+        """READY once clients are accepted, and STOPPING at SIGTERM, at a socket of either kind."""
+        with tempfile.TemporaryDirectory() as folder:
+            for name in (os.path.join(folder, "socket"), f"@lemonrudder-{os.getpid()}"):
+                with socket.socket(socket.AF_UNIX, socket.SOCK_DGRAM) as manager:
+                    manager.settimeout(relays.SECONDS)
+                    manager.bind(name.replace("@", "\0"))
+                    with unittest.mock.patch.dict(os.environ, {"NOTIFY_SOCKET": name}), guarded() as (_, guard):
+                        want(manager.recv(99), b"READY=1")
+                        want(guard.end(signal.SIGTERM), 0)
+                        want(manager.recv(99), b"STOPPING=1")
 
     def test_a_client_that_is_lost(self):
         """Its requests go on, and the outcome is kept."""
