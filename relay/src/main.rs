@@ -10,12 +10,14 @@ mod guard;
 mod points;
 mod pool;
 mod reference;
+mod retry;
 mod settings;
 mod store;
 mod tls;
+mod upstream;
 mod wire;
 
-use settings::{Log, Role, Words};
+use settings::{Lead, Log, Role, Words};
 use std::env;
 use std::future::Future;
 use std::io::{stderr, IsTerminal};
@@ -54,6 +56,18 @@ fn run(form: Log, role: impl Future<Output = Result<(), String>>) -> ExitCode {
     }
 }
 
+/// Prints a reference that leads to the same object by another address.
+fn led(lead: &Lead) -> ExitCode {
+    let at = wire::parts_of(&lead.at).ok_or("--at is no HOST:PORT".to_owned());
+    match at.and_then(|(host, port)| reference::at(&lead.reference, &host, port)) {
+        Ok(text) => {
+            println!("{text}");
+            ExitCode::SUCCESS
+        }
+        Err(why) => said(&[why], 1),
+    }
+}
+
 fn main() -> ExitCode {
     let words = match Words::read(env::args_os()) {
         Ok(words) => words,
@@ -65,6 +79,7 @@ fn main() -> ExitCode {
             let faults = settings::check(&check.file);
             said(&faults, u8::from(!faults.is_empty()))
         }
-        Role::Retry(_) => said(&["retry is not there".to_owned()], 1),
+        Role::Retry(settings) => run(settings.common.log, retry::run(settings)),
+        Role::Ior(lead) => led(&lead),
     }
 }

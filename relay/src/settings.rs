@@ -35,6 +35,7 @@ pub struct Words {
 pub enum Role {
     Guard(Guard),
     Retry(Retry),
+    Ior(Lead),
     Check(Check),
 }
 
@@ -77,6 +78,17 @@ pub struct Retry {
     /// What its client ids begin with
     #[arg(long, value_name = "PREFIX", default_value = "retry")]
     pub name: String,
+}
+
+/// Prints a reference that leads to the same object by another address
+#[derive(Debug, Args)]
+pub struct Lead {
+    /// The address of a relay
+    #[arg(long, value_name = "HOST:PORT", value_parser = address)]
+    pub at: String,
+    /// The reference
+    #[arg(value_name = "IOR:..")]
+    pub reference: String,
 }
 
 /// Says what is wrong in a file of settings
@@ -356,7 +368,7 @@ impl Role {
         let (listen, servers, which) = match self {
             Role::Guard(it) => (&it.common.listen, it.server.len() + it.reference.len(), "server"),
             Role::Retry(it) => (&it.common.listen, it.guard.len(), "guard"),
-            Role::Check(_) => return Vec::new(),
+            Role::Ior(_) | Role::Check(_) => return Vec::new(),
         };
         let missing = [(listen.len(), "listen"), (servers, which)];
         let missing = missing.iter().filter(|(count, _)| *count == 0);
@@ -368,7 +380,7 @@ impl Role {
         let (common, clients) = match self {
             Role::Guard(it) => (&it.common, it.clients.as_deref()),
             Role::Retry(it) => (&it.common, None),
-            Role::Check(_) => return Vec::new(),
+            Role::Ior(_) | Role::Check(_) => return Vec::new(),
         };
         let mut faults: Vec<String> = tls::faults(&common.tls);
         if let Some(Err(found)) = clients.map(access::Clients::read) {
