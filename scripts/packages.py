@@ -64,6 +64,12 @@ def toolchain() -> str:
     return f"proved by {said('rt', 'version').strip()}\n"
 
 
+def octets_of(path: str) -> bytes:
+    """What is in a file."""
+    with open(path, "rb") as file:
+        return file.read()
+
+
 def put(path: str, octets: bytes, mode: int = 0o644) -> None:
     """Writes a file, and the folders above it."""
     os.makedirs(os.path.dirname(path), exist_ok=True)
@@ -74,8 +80,7 @@ def put(path: str, octets: bytes, mode: int = 0o644) -> None:
 
 def copy(source: str, path: str, mode: int = 0o644) -> None:
     """Copies a file."""
-    with open(source, "rb") as file:
-        put(path, file.read(), mode)
+    put(path, octets_of(source), mode)
 
 
 def compressed(octets: bytes) -> bytes:
@@ -90,8 +95,7 @@ def copy_manual(name: str, share: str) -> None:
     """Copies the manual page of a program, by gzip."""
     page = os.path.join(ROOT, "docs", f"{name}.1")
     if os.path.exists(page):
-        with open(page, "rb") as file:
-            put(f"{share}/man/man1/{name}.1.gz", compressed(file.read()))
+        put(f"{share}/man/man1/{name}.1.gz", compressed(octets_of(page)))
 
 
 def copy_program(path: str, name: str, top: str) -> None:
@@ -243,7 +247,7 @@ def finish(package: Debian, top: str) -> None:
     put(f"{documents}/copyright", COPYRIGHT.encode())
     put(f"{documents}/TOOLCHAIN", toolchain().encode())
     files = sorted(path for path in paths_below(top) if os.path.isfile(path) and not os.path.islink(path))
-    sums = [f"{hashlib.md5(open(path, 'rb').read()).hexdigest()}  {os.path.relpath(path, top)}\n" for path in files]
+    sums = [f"{hashlib.md5(octets_of(path)).hexdigest()}  {os.path.relpath(path, top)}\n" for path in files]
     size = (sum(os.path.getsize(path) for path in files) + 1023) // 1024
     put(f"{top}/DEBIAN/md5sums", "".join(sums).encode())
     put(f"{top}/DEBIAN/control", package.control(size).encode())
@@ -331,7 +335,7 @@ def make_crates(prefix: str, folder: str) -> list[str]:
         first = packed(f"{NAME}-sys", work, prefix)
         with tarfile.open(first) as tar:
             tar.extractall(registry, filter="data")
-        sums = {"files": {}, "package": hashlib.sha256(open(first, "rb").read()).hexdigest()}
+        sums = {"files": {}, "package": hashlib.sha256(octets_of(first)).hexdigest()}
         put(f"{registry}/{NAME}-sys-{VERSION}/.cargo-checksum.json", json.dumps(sums).encode())
         second = packed(NAME, work, prefix, "--config", 'source.crates-io.replace-with = "packed"',
                         "--config", f"source.packed.directory = {json.dumps(registry)}")
@@ -354,6 +358,6 @@ def make(prefix: str, folder: str) -> list[str]:
         made += make_debian(prefix, folder)
     made += [it for it in [make_wheel(prefix, folder)] if it]
     made += make_crates(prefix, folder)
-    sums = [f"{hashlib.sha256(open(path, 'rb').read()).hexdigest()}  {os.path.basename(path)}\n" for path in made]
+    sums = [f"{hashlib.sha256(octets_of(path)).hexdigest()}  {os.path.basename(path)}\n" for path in made]
     put(os.path.join(folder, "SHA256SUMS"), "".join(sums).encode())
     return [*made, os.path.join(folder, "SHA256SUMS")]

@@ -30,6 +30,16 @@ def made(number: int) -> str:
     return folder
 
 
+def octets_of(name: str) -> bytes:
+    """What is in a file."""
+    with open(name, "rb") as file:
+        return file.read()
+
+
+def sum_of(name: str) -> str:
+    return hashlib.sha256(octets_of(name)).hexdigest()
+
+
 def named(pattern: str) -> str:
     """The one package whose name has a form; the test is skipped where none was made."""
     found = glob.glob(os.path.join(made(1), pattern))
@@ -66,14 +76,12 @@ class Packages(unittest.TestCase):
         """What is made again has the same octets, and SHA256SUMS their sums."""
         names = sorted(os.listdir(made(1)))
         self.assertEqual(sorted(os.listdir(made(2))), names)
-        sums = dict(reversed(line.split("  ")) for line in open(f"{made(1)}/SHA256SUMS", encoding="ascii").read().split("\n")
-                    if line)
-        self.assertEqual(sorted([*sums, "SHA256SUMS"]), names)
         for name in names:
             with self.subTest(name):
-                one, other = (open(os.path.join(made(number), name), "rb").read() for number in (1, 2))
-                self.assertEqual(one, other)
-                self.assertEqual(sums.get(name, hashlib.sha256(one).hexdigest()), hashlib.sha256(one).hexdigest())
+                self.assertEqual(*(octets_of(os.path.join(made(number), name)) for number in (1, 2)))
+        names.remove("SHA256SUMS")
+        lines = octets_of(f"{made(1)}/SHA256SUMS").decode("ascii").splitlines()
+        self.assertEqual(sorted(lines), sorted(f"{sum_of(os.path.join(made(1), name))}  {name}" for name in names))
 
     def test_tarball(self):
         """It may be unpacked anywhere; pkg-config finds what it has."""
@@ -144,7 +152,7 @@ class Packages(unittest.TestCase):
                 tar.extractall(registry, filter="data")
             with open(os.path.join(registry, os.path.basename(name)[:-6], ".cargo-checksum.json"), "w",
                       encoding="ascii") as file:
-                file.write('{"files": {}, "package": "%s"}' % hashlib.sha256(open(name, "rb").read()).hexdigest())
+                file.write('{"files": {}, "package": "%s"}' % sum_of(name))
         run(["cargo", "new", "-q", "--vcs", "none", "--name", "first", f"{self.folder}/first"])
         with open(f"{self.folder}/first/Cargo.toml", "a", encoding="ascii") as file:
             file.write(f'lemonrudder = "{packages.VERSION}"\n')
