@@ -2,6 +2,7 @@
 
 use crate::compose;
 use crate::forward::{self, Answer, Request, CODE_SETS};
+use crate::metrics::metrics;
 use crate::points::point;
 use crate::settings;
 use crate::tls::Acceptor;
@@ -173,7 +174,10 @@ async fn accepts<R: Role>(front: Arc<Front<R>>, listener: TcpListener, peers: Ar
         let number = NUMBER.fetch_add(1, std::sync::atomic::Ordering::Relaxed);
         let front = front.clone();
         tokio::spawn(async move {
+            metrics().connections.inc();
             let why = attends(&front, number, socket, address).await;
+            metrics().connections.dec();
+            metrics().ended.with_label_values(&[why]).inc();
             info!(number, peer = %address, why, "connection ended");
             drop(place);
         });

@@ -4,6 +4,7 @@
 use crate::access::Clients;
 use crate::forward::{Answer, Ft, Guarded};
 use crate::front::{self, Answering, Asked, Bounds, Role};
+use crate::metrics::{self, metrics, Trouble};
 use crate::points::point;
 use crate::pool::{Loss, Places, Pool, Reply};
 use crate::settings;
@@ -101,10 +102,19 @@ pub async fn run(settings: settings::Guard) -> Result<(), String> {
         share,
         access,
     });
+    if let Some(address) = &common.metrics {
+        let guard = guard.clone();
+        let ready = move || {
+            let guard = guard.clone();
+            Box::pin(async move { guard.trouble().await }) as Trouble
+        };
+        metrics::listen(address, ready).await?;
+    }
     let purging = tokio::spawn(purges(guard.clone()));
     let bounds = Bounds { limits: common.limits, requests: settings.parked, drain: common.drain };
     front::serve(guard.clone(), listeners, tls, bounds, wire::ended()).await;
     purging.abort();
+    guard.store.close().await;
     Ok(())
 }
 
@@ -148,6 +158,9 @@ enum Sent {
 impl Role for Guard {
     fn perform(self: Arc<Self>, asked: Asked) -> Answering {
         Box::pin(async move {
+            let is_keyed = if asked.request.ft.is_some() { "yes" } else { "no" };
+            metrics().requests.with_label_values(&[is_keyed]).inc();
+            let _parked = metrics().park();
             match asked.request.ft.clone() {
                 Some(ft) => Some(self.keyed(asked, &ft).await),
                 None => self.free(asked).await,
@@ -156,7 +169,22 @@ impl Role for Guard {
     }
 }
 
+/// Tells an exception of which nothing is kept.
+fn refused(name: &str, minor: u32, completed: Completed) -> Answer {
+    metrics().refused.with_label_values(&[name]).inc();
+    Answer::system(name, minor, completed)
+}
+
 impl Guard {
+    /// What keeps it from being ready.
+    async fn trouble(&self) -> Option<String> {
+        if !self.store.ready().await {
+            return Some("the store is away".to_owned());
+        }
+        let is_there = self.pool.is_there().await;
+        (!is_there).then(|| "no server can be reached".to_owned())
+    }
+
     /// A place in the share of a client, if there is one left.
     fn hold<'g>(&'g self, client: &'g [u8]) -> Option<Held<'g>> {
         let mut clients = locked(&self.clients);
@@ -170,30 +198,36 @@ impl Guard {
     async fn free(&self, asked: Asked) -> Option<Answer> {
         match self.sends(asked, true).await {
             Sent::Done(answer) => Some(answer),
-            Sent::Maybe(name) => Some(Answer::system(name, 0, Completed::Maybe)),
-            Sent::Not(name, minor) => Some(Answer::system(name, minor, Completed::No)),
+            Sent::Maybe(name) => {
+                metrics().maybe.inc();
+                Some(Answer::system(name, 0, Completed::Maybe))
+            }
+            Sent::Not(name, minor) => Some(refused(name, minor, Completed::No)),
             Sent::Cancelled => None,
         }
     }
 
     /// Performs a request with FT_REQUEST, or answers what became of it.
     async fn keyed(&self, asked: Asked, ft: &Ft) -> Answer {
-        let declined = || Answer::system("TRANSIENT", DECLINED, Completed::No);
-        let bad = || Answer::system("BAD_CONTEXT", 0, Completed::No);
+        let declined = || refused("TRANSIENT", DECLINED, Completed::No);
+        let bad = || refused("BAD_CONTEXT", 0, Completed::No);
         let names = &asked.peer.names;
         if self.access.as_ref().is_some_and(|it| !it.may(names, &ft.key.client)) {
-            return Answer::system("NO_PERMISSION", 0, Completed::No);
+            return refused("NO_PERMISSION", 0, Completed::No);
         }
         if ft.expiration < Moment::now() {
             return bad();
         }
         let Some(_held) = self.hold(&ft.key.client) else {
-            return Answer::system("NO_RESOURCES", DECLINED, Completed::No);
+            return refused("NO_RESOURCES", DECLINED, Completed::No);
         };
         point("before-begin");
         match self.store.begin(&ft.key, ft.expiration.0).await {
             Ok(Begun::New) => {}
-            Ok(Begun::Done(outcome)) => return outcome.into(),
+            Ok(Begun::Done(outcome)) => {
+                metrics().repeats.inc();
+                return outcome.into();
+            }
             Ok(Begun::Expired) => return bad(),
             Err(error) => {
                 warn!(%error, "the store");
@@ -206,7 +240,7 @@ impl Guard {
             Sent::Maybe(name) => Answer::system(name, 0, Completed::Maybe),
             Sent::Not(name, minor) => {
                 _ = self.store.undo(&ft.key).await;
-                return Answer::system(name, minor, Completed::No);
+                return refused(name, minor, Completed::No);
             }
             Sent::Cancelled => Outcome::maybe().into(),
         };
@@ -223,6 +257,7 @@ impl Guard {
             Outcome::system("IMP_LIMIT", 0, Completed::Yes)
         });
         if is_maybe(&outcome) {
+            metrics().maybe.inc();
             let client = String::from_utf8_lossy(&ft.key.client);
             warn!(%client, number = ft.key.number, "nobody knows whether it was performed");
         }
@@ -232,7 +267,7 @@ impl Guard {
             Err(error) => {
                 // (it has expired, and is taken out; whether it was told is not known)
                 warn!(%error, "the store");
-                Answer::system("BAD_CONTEXT", 0, Completed::Maybe)
+                refused("BAD_CONTEXT", 0, Completed::Maybe)
             }
         }
     }
@@ -251,6 +286,7 @@ impl Guard {
             Ok(pending) => pending,
             Err(loss) => return lost(loss),
         };
+        metrics().performed.inc();
         let is_cancelled = cancelled(&mut asked.cancelled);
         let ended = select! {
             ended = timeout(self.timeout, pending.reply()) => ended,

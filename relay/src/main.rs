@@ -7,6 +7,7 @@ mod compose;
 mod forward;
 mod front;
 mod guard;
+mod metrics;
 mod points;
 mod pool;
 mod reference;

@@ -9,6 +9,7 @@ use crate::compose::{Body, Head};
 use crate::forward::{Answer, Request, FT_REQUEST};
 use crate::front::{self, Answering, Asked, Bounds, Role};
 use crate::guard::DECLINED;
+use crate::metrics::{self, metrics, Trouble};
 use crate::points::point;
 use crate::pool::{Loss, Pool, Reply};
 use crate::settings;
@@ -53,11 +54,26 @@ pub async fn run(settings: settings::Retry) -> Result<(), String> {
         let pool = Pool::new(Box::new(places), tls, common.connections, common.limits.idle);
         guards.push((address, pool));
     }
+    if let Some(address) = &common.metrics {
+        let pools: Vec<_> = guards.iter().map(|(_, pool)| pool.clone()).collect();
+        let ready = move || Box::pin(trouble(pools.clone())) as Trouble;
+        metrics::listen(address, ready).await?;
+    }
     let listeners = front::listen(&common.listen).await?;
     let bounds = Bounds { limits: common.limits, requests: REQUESTS, drain: common.drain };
     let role = Retry::new(guards, keys, common.timeout);
     front::serve(role, listeners, None, bounds, wire::ended()).await;
     Ok(())
+}
+
+/// What keeps it from being ready.
+async fn trouble(guards: Vec<Arc<Pool>>) -> Option<String> {
+    for guard in guards {
+        if guard.is_there().await {
+            return None;
+        }
+    }
+    Some("no guard can be reached".to_owned())
 }
 
 /// The keys of requests: each is given once.
@@ -136,7 +152,11 @@ pub struct Retry {
 
 impl Role for Retry {
     fn perform(self: Arc<Self>, asked: Asked) -> Answering {
-        Box::pin(async move { self.call(asked.request).await })
+        Box::pin(async move {
+            metrics().requests.with_label_values(&["no"]).inc();
+            let _parked = metrics().park();
+            self.call(asked.request).await
+        })
     }
 }
 

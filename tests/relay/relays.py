@@ -236,7 +236,7 @@ class Link:
         except OSError:
             writer.transport.abort()
             return
-        left = [1 << 60 if self.is_calm or self.dice.random() < 0.2 else self.dice.randrange(20_000)]
+        left = [1 << 60 if self.is_calm or self.dice.random() < 0.1 else self.dice.randrange(6_000)]
         ways = [asyncio.ensure_future(self.hand_on(*way, left)) for way in ((reader, onward), (there, writer))]
         try:
             await asyncio.wait(ways, return_when=asyncio.FIRST_COMPLETED)
@@ -249,10 +249,10 @@ class Link:
 
     def leave(self, one: asyncio.StreamWriter) -> None:
         """Closes an end, half of the time by a reset."""
-        if self.dice.random() < 0.5:
-            one.get_extra_info("socket").setsockopt(socket.SOL_SOCKET, socket.SO_LINGER, struct.pack("ii", 1, 0))
-            one.transport.abort()
-        else:
+        with contextlib.suppress(OSError):
+            if self.dice.random() < 0.5:
+                one.get_extra_info("socket").setsockopt(socket.SOL_SOCKET, socket.SO_LINGER, struct.pack("ii", 1, 0))
+                one.transport.abort()
             one.close()
 
     async def hand_on(self, source: asyncio.StreamReader, sink: asyncio.StreamWriter, left: list[int]) -> None:

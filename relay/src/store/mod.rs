@@ -17,6 +17,7 @@ use postgres::Postgres;
 use sqlite::Sqlite;
 use writer::Steps;
 
+use crate::metrics::metrics;
 use lemonrudder::cdr::Writer;
 use lemonrudder::{Completed, Order, Status};
 use std::fmt;
@@ -97,6 +98,11 @@ impl fmt::Display for Error {
 
 impl std::error::Error for Error {}
 
+/// Counts a step.
+fn taken(step: &str) {
+    metrics().steps.with_label_values(&[step]).inc();
+}
+
 /// A store. It is shared by `Arc`, and asked from any task.
 pub enum Store {
     Memory(Memory),
@@ -134,6 +140,7 @@ impl Store {
     ///
     /// `Away`, `Unusable`: nothing is begun, or it is undone once the store can be reached.
     pub async fn begin(&self, key: &Key, expiration: u64) -> Result<Begun, Error> {
+        taken("begin");
         match self {
             Store::Memory(store) => store.begin(key, expiration).await,
             Store::Written(steps) => steps.begin(key, expiration).await,
@@ -148,6 +155,7 @@ impl Store {
     ///
     /// `Forgotten`; `Away`: the store is closed.
     pub async fn finish(&self, key: &Key, outcome: Outcome) -> Result<Outcome, Error> {
+        taken("finish");
         match self {
             Store::Memory(store) => store.finish(key, outcome),
             Store::Written(steps) => steps.finish(key, outcome).await,
@@ -161,6 +169,7 @@ impl Store {
     ///
     /// `Away`: the store is closed.
     pub async fn undo(&self, key: &Key) -> Result<(), Error> {
+        taken("undo");
         match self {
             Store::Memory(store) => {
                 store.undo(key);
@@ -177,6 +186,7 @@ impl Store {
     ///
     /// `Away`, `Unusable`.
     pub async fn purge(&self, now: u64) -> Result<u64, Error> {
+        taken("purge");
         match self {
             Store::Memory(store) => Ok(store.purge(now)),
             Store::Written(steps) => steps.purge(now).await,

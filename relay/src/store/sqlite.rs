@@ -12,7 +12,7 @@ use std::path::{Path, PathBuf};
 use tracing::warn;
 
 /// What the file says that it is: of this program, in this version.
-const APPLICATION: i32 = 0x4c52_7374;
+const APPLICATION: i32 = 0x4c52_5374;
 const VERSION: i32 = 1;
 /// Rows that one transaction takes out at most.
 const CHUNK: u64 = 1000;
@@ -199,5 +199,13 @@ impl Database for Sqlite {
 
     fn is_told(&mut self) -> bool {
         false
+    }
+}
+
+#[cfg(test)]
+impl Sqlite {
+    /// Has the file take so many pages at most.
+    pub fn limit(&mut self, pages: u32) {
+        self.link.pragma_update(None, "max_page_count", pages).unwrap();
     }
 }

@@ -2,6 +2,7 @@
 //! one transaction. Who comes while one is being written waits for the next.
 
 use super::{Begun, Error, Key, Outcome};
+use crate::metrics::metrics;
 use std::collections::{HashMap, HashSet, VecDeque};
 use std::future::Future;
 use std::mem;
@@ -188,6 +189,11 @@ pub async fn start<D: Database>(
     Ok(steps)
 }
 
+/// A count of steps, for what takes no other numbers.
+fn precise(count: usize) -> f64 {
+    u32::try_from(count).map_or(f64::MAX, f64::from)
+}
+
 /// What writes to a database.
 struct Writer<D> {
     database: D,
@@ -273,7 +279,11 @@ impl<D: Database> Writer<D> {
     /// Writes steps in one transaction.
     async fn write(&mut self, batch: Vec<Job>) {
         let steps: Vec<Step> = batch.iter().map(|job| job.step.clone()).collect();
-        match self.database.write(&steps).await {
+        let began = Instant::now();
+        let written = self.database.write(&steps).await;
+        metrics().writes.observe(began.elapsed().as_secs_f64());
+        metrics().batches.observe(precise(steps.len()));
+        match written {
             Ok(dones) => {
                 if self.trouble.take().is_some() {
                     info!("the store can be written again");
@@ -293,6 +303,8 @@ impl<D: Database> Writer<D> {
                 self.next = Instant::now() + PAUSE;
             }
         }
+        let waiting = self.waiting.values().map(Vec::len).sum::<usize>();
+        metrics().waiting.set(i64::try_from(waiting).unwrap_or(i64::MAX));
     }
 
     /// What comes of a step that was taken.
