@@ -18,13 +18,13 @@ import tarfile
 import tempfile
 from dataclasses import dataclass, field
 
-from scripts import library
+from scripts import library, relay
 from scripts.crates import PROGRAM, ROOT
 
 NAME, VERSION = library.LIBRARY, library.VERSION
 SERIES = library.series(VERSION)
 TRIPLET = "x86_64-linux-gnu"
-RELAY = os.path.join(ROOT, "relay", "target", "release", "lemonrudder")
+RELAY = os.path.join(relay.TARGET, "release", relay.PROGRAM)
 URL = "https://www.omg.org/spec/CORBA/3.3/"
 DOCUMENTS = ("README.md", "CHANGELOG.md", "SECURITY.md")
 HOMEPAGE = f"Homepage: {URL}\n"

@@ -4,11 +4,12 @@
 //! connections, since those belong to a connection (CORBA 3.3 Part 2, 7.10.2.5).
 
 use crate::compose::{self, Body, Contexts, Head};
-use crate::forward::{self, CODE_SETS};
+use crate::forward::{self, Answer, CODE_SETS};
+use crate::frames::{Frames, Taken};
 use crate::points::point;
 use crate::tls::Connector;
 use crate::wire::{self, locked, Stream};
-use lemonrudder::{write, Assembler, Limits, MessageType, Order, Version, Wish};
+use lemonrudder::{write, Assembler, Completed, Limits, MessageType, Order, Version, Wish};
 use std::collections::HashMap;
 use std::io;
 use std::sync::atomic::{AtomicU32, AtomicU64, Ordering};
@@ -50,6 +51,15 @@ pub struct Reply {
     pub order: Order,
     pub contexts: Contexts,
     pub body: Body,
+}
+
+impl Reply {
+    /// What stands for a reply that is too long.
+    fn long() -> Reply {
+        let Answer { status, order, contexts, body } =
+            Answer::system("IMP_LIMIT", 0, Completed::Yes);
+        Reply { status, order, contexts, body }
+    }
 }
 
 /// What came of a request; no reply, where none was wished.
@@ -167,6 +177,14 @@ impl Pool {
         let due = Due::Request { id, wish: head.wish, octets, ended };
         line.due.send(due).map_err(|_| Loss::Unsent)?;
         Ok(Pending { ended: end, line, id, form: (head.version, head.order) })
+    }
+
+    /// Ends a request by its reply.
+    fn ends(&self, line: &Line, id: u32, reply: Reply) {
+        match locked(&line.waiting).requests.remove(&id) {
+            Some(ended) => _ = ended.send(Ok(Some(reply))),
+            None => _ = self.strays.fetch_add(1, Ordering::Relaxed),
+        }
     }
 
     /// A connection for requests with these code sets: the one with the fewest outstanding, or a
@@ -367,7 +385,7 @@ async fn reads(
     let Ok(mut assembler) = Assembler::open(limits) else {
         return ("memory is short", Loss::Unsent);
     };
-    let mut room = vec![0; BATCH];
+    let (mut frames, mut room) = (Frames::new(compose::LONGEST), vec![0; BATCH]);
     loop {
         let size = match timeout(pool.idle, half.read(&mut room)).await {
             Ok(Ok(0)) => return ("it was closed without a goodbye", Loss::Lost),
@@ -377,8 +395,15 @@ async fn reads(
             Err(_) if writer.is_finished() => return ("it takes nothing", Loss::Lost),
             Err(_) => continue,
         };
-        if let Err(end) = takes(pool, line, &mut assembler, &room[..size]) {
-            return end;
+        let mut octets = &room[..size];
+        while !octets.is_empty() {
+            let taken = frames.take(&mut octets);
+            if let Taken::Long { id, .. } = taken {
+                pool.ends(line, id, Reply::long());
+            }
+            if let Err(end) = takes(pool, line, &mut assembler, taken.octets()) {
+                return end;
+            }
         }
     }
 }
@@ -407,12 +432,8 @@ fn takes(
         let Some(mut message) = message else { continue };
         match message.message_type() {
             MessageType::Reply => {
-                let ended = locked(&line.waiting).requests.remove(&message.request_id());
-                let Some(ended) = ended else {
-                    pool.strays.fetch_add(1, Ordering::Relaxed);
-                    continue;
-                };
-                _ = ended.send(Ok(Some(forward::reply_of(&mut message))));
+                let (id, reply) = (message.request_id(), forward::reply_of(&mut message));
+                pool.ends(line, id, reply);
             }
             MessageType::CloseConnection => return Err(("it said CloseConnection", Loss::Closed)),
             MessageType::MessageError => return Err(("it said MessageError", Loss::Lost)),
