@@ -182,7 +182,8 @@ mod tests {
         for version in VERSIONS {
             for (order, key, place) in ORDERS
                 .into_iter()
-                .flat_map(|order| (0..64).map(move |n| (order, n as usize / 8, n % 8)))
+                .flat_map(|order| (0..64).map(move |n| (order, n / 8, n % 8)))
+                .map(|(order, key, place): (_, u8, u8)| (order, key.into(), place.into()))
             {
                 let body = Body { octets: b"abcdefg".to_vec(), place };
                 let head = head(version, order, key);
