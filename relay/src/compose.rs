@@ -93,7 +93,8 @@ fn moved(
     version: Version,
     write: impl Fn(Option<usize>) -> Result<Vec<u8>, Error>,
 ) -> Option<Vec<u8>> {
-    let is_at = |header: &Vec<u8>| body.octets.is_empty() || header.len() as u64 % 8 == body.place % 8;
+    let is_at =
+        |header: &Vec<u8>| body.octets.is_empty() || header.len() as u64 % 8 == body.place % 8;
     let mut octets = write(None).ok()?;
     if version == Version::V12 && !body.octets.is_empty() {
         octets.resize(octets.len().next_multiple_of(8), 0);
@@ -106,7 +107,11 @@ fn moved(
     octets.extend_from_slice(&body.octets);
     let is_little = octets[6] & 1 == 1;
     let size = u32::try_from(octets.len() - HEADER).ok()?;
-    octets[8..HEADER].copy_from_slice(&if is_little { size.to_le_bytes() } else { size.to_be_bytes() });
+    octets[8..HEADER].copy_from_slice(&if is_little {
+        size.to_le_bytes()
+    } else {
+        size.to_be_bytes()
+    });
     Some(octets)
 }
 
@@ -128,7 +133,11 @@ fn flags_of(version: Version, wish: Wish) -> u8 {
 }
 
 /// A list of service contexts, the last of which says nothing where there is padding.
-fn put_contexts(out: &mut Writer, contexts: &Contexts, padding: Option<usize>) -> Result<(), Error> {
+fn put_contexts(
+    out: &mut Writer,
+    contexts: &Contexts,
+    padding: Option<usize>,
+) -> Result<(), Error> {
     let count = contexts.len() + usize::from(padding.is_some());
     out.ulong(u32::try_from(count).map_err(|_| Error::Long)?)?;
     for (id, data) in contexts {
@@ -162,14 +171,19 @@ mod tests {
         let found: Contexts = message.contexts().map(Result::unwrap).collect();
         let found: Contexts = found.into_iter().filter(|(id, _)| *id != PADDING).collect();
         let is_there = body.octets.is_empty() || message.place() % 8 == body.place % 8;
-        message.request_id() == id && message.body() == body.octets && is_there && &found == contexts
+        message.request_id() == id
+            && message.body() == body.octets
+            && is_there
+            && &found == contexts
     }
 
     #[test]
     fn a_request_has_its_body_at_its_place() {
         for version in VERSIONS {
-            for (order, key, place) in
-                ORDERS.into_iter().flat_map(|order| (0..64).map(move |n| (order, n as usize / 8, n % 8)))
+            for (order, key, place) in ORDERS
+                .into_iter()
+                .flat_map(|order| (0..64).map(move |n| (order, n / 8, n % 8)))
+                .map(|(order, key, place): (_, u8, u8)| (order, key.into(), place.into()))
             {
                 let body = Body { octets: b"abcdefg".to_vec(), place };
                 let head = head(version, order, key);
@@ -177,7 +191,10 @@ mod tests {
                 if version == Version::V12 && place != 0 {
                     assert_eq!(made, None);
                 } else {
-                    assert!(is_read(&made.unwrap(), 9, &body, &head.contexts), "{version} {key} {place}");
+                    assert!(
+                        is_read(&made.unwrap(), 9, &body, &head.contexts),
+                        "{version} {key} {place}"
+                    );
                 }
             }
         }
@@ -202,10 +219,16 @@ mod tests {
     #[test]
     fn what_has_no_body_stands_anywhere() {
         for version in VERSIONS {
-            let (head, body) = (head(version, Order::Big, 3), Body { octets: Vec::new(), place: 3 });
+            let (head, body) =
+                (head(version, Order::Big, 3), Body { octets: Vec::new(), place: 3 });
             assert!(is_read(&request(&head, 1, &body).unwrap(), 1, &body, &head.contexts));
             let none = Contexts::new();
-            assert!(is_read(&reply(version, Order::Big, 1, 0, &none, &body).unwrap(), 1, &body, &none));
+            assert!(is_read(
+                &reply(version, Order::Big, 1, 0, &none, &body).unwrap(),
+                1,
+                &body,
+                &none
+            ));
         }
     }
 

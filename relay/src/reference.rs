@@ -23,7 +23,9 @@ pub fn at(reference: &str, host: &str, port: u16) -> Result<String, String> {
     let type_id = ior.type_id().map_err(|error| error.to_string())?;
     let mut profiles: Vec<Vec<u8>> = Vec::new();
     for profile in ior.profiles() {
-        if let Profile { address: Some(address), .. } = profile.map_err(|error| error.to_string())? {
+        if let Profile { address: Some(address), .. } =
+            profile.map_err(|error| error.to_string())?
+        {
             let made = profile_of(&address, host, port).map_err(|error| error.to_string())?;
             if !profiles.contains(&made) {
                 profiles.push(made);
@@ -42,7 +44,8 @@ fn profile_of(address: &Address, host: &str, port: u16) -> Result<Vec<u8>, Error
     out.octet(1)?.octet(u8::try_from(address.minor).map_err(|_| Error::Range)?)?;
     out.string(host)?.ushort(port)?.octets(&address.key)?;
     if address.minor > 0 {
-        let stay: Vec<_> = address.components.iter().filter(|(tag, _)| STAY.contains(tag)).collect();
+        let stay: Vec<_> =
+            address.components.iter().filter(|(tag, _)| STAY.contains(tag)).collect();
         out.ulong(u32::try_from(stay.len()).map_err(|_| Error::Range)?)?;
         for (tag, data) in stay {
             out.ulong(*tag)?.octets(data)?;
@@ -85,7 +88,12 @@ mod tests {
     fn whole(address: &Address) -> Vec<u8> {
         let mut out = Writer::encapsulation(Order::Little);
         out.octet(1).unwrap().octet(u8::try_from(address.minor).unwrap()).unwrap();
-        out.string(&address.host).unwrap().ushort(address.port).unwrap().octets(&address.key).unwrap();
+        out.string(&address.host)
+            .unwrap()
+            .ushort(address.port)
+            .unwrap()
+            .octets(&address.key)
+            .unwrap();
         if address.minor > 0 {
             out.ulong(u32::try_from(address.components.len()).unwrap()).unwrap();
             for (tag, data) in &address.components {

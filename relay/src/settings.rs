@@ -35,6 +35,7 @@ pub struct Words {
 pub enum Role {
     Guard(Guard),
     Retry(Retry),
+    Ior(Lead),
     Check(Check),
 }
 
@@ -77,6 +78,17 @@ pub struct Retry {
     /// What its client ids begin with
     #[arg(long, value_name = "PREFIX", default_value = "retry")]
     pub name: String,
+}
+
+/// Prints a reference that leads to the same object by another address
+#[derive(Debug, Args)]
+pub struct Lead {
+    /// The address of a relay
+    #[arg(long, value_name = "HOST:PORT", value_parser = address)]
+    pub at: String,
+    /// The reference
+    #[arg(value_name = "IOR:..")]
+    pub reference: String,
 }
 
 /// Says what is wrong in a file of settings
@@ -301,7 +313,8 @@ impl Read {
 
 /// The line in which the table of a role begins.
 fn line_of_table(text: &str, role: &str) -> usize {
-    let is_it = |line: &str| line.trim_start().trim_start_matches('[').trim_start().starts_with(role);
+    let is_it =
+        |line: &str| line.trim_start().trim_start_matches('[').trim_start().starts_with(role);
     1 + text.lines().position(is_it).unwrap_or(0)
 }
 
@@ -336,7 +349,11 @@ impl Words {
         }
         let words = parse(&all).map_err(|why| vec![why])?;
         let missing = words.role.missing();
-        if missing.is_empty() { Ok(words) } else { Err(missing) }
+        if missing.is_empty() {
+            Ok(words)
+        } else {
+            Err(missing)
+        }
     }
 }
 
@@ -351,7 +368,7 @@ impl Role {
         let (listen, servers, which) = match self {
             Role::Guard(it) => (&it.common.listen, it.server.len() + it.reference.len(), "server"),
             Role::Retry(it) => (&it.common.listen, it.guard.len(), "guard"),
-            Role::Check(_) => return Vec::new(),
+            Role::Ior(_) | Role::Check(_) => return Vec::new(),
         };
         let missing = [(listen.len(), "listen"), (servers, which)];
         let missing = missing.iter().filter(|(count, _)| *count == 0);
@@ -363,7 +380,7 @@ impl Role {
         let (common, clients) = match self {
             Role::Guard(it) => (&it.common, it.clients.as_deref()),
             Role::Retry(it) => (&it.common, None),
-            Role::Check(_) => return Vec::new(),
+            Role::Ior(_) | Role::Check(_) => return Vec::new(),
         };
         let mut faults: Vec<String> = tls::faults(&common.tls);
         if let Some(Err(found)) = clients.map(access::Clients::read) {

@@ -6,12 +6,24 @@
 //! taken out, plus 1, is kept as W: what expires before W, and is not there, is refused.
 
 mod memory;
+mod postgres;
+mod secured;
+mod sqlite;
+#[cfg(test)]
+mod tests;
+mod writer;
 
-pub use memory::Memory;
+use memory::Memory;
+use postgres::Postgres;
+use sqlite::Sqlite;
+use writer::Steps;
 
+use crate::metrics::metrics;
 use lemonrudder::cdr::Writer;
 use lemonrudder::{Completed, Order, Status};
 use std::fmt;
+use std::path::Path;
+use std::time::Duration;
 
 /// What a request is known by: the client id and the retention id of its FT_REQUEST.
 #[derive(Clone, PartialEq, Eq, Hash, PartialOrd, Ord, Debug)]
@@ -87,22 +99,36 @@ impl fmt::Display for Error {
 
 impl std::error::Error for Error {}
 
+/// Counts a step.
+fn taken(step: &str) {
+    metrics().steps.with_label_values(&[step]).inc();
+}
+
 /// A store. It is shared by `Arc`, and asked from any task.
 pub enum Store {
     Memory(Memory),
+    /// A database, with what writes to it.
+    Written(Steps),
 }
 
 impl Store {
-    /// Opens the store that some words name: `memory`.
+    /// Opens the store that some words name: `memory`, `postgres://..`, or a file of SQLite. A
+    /// PostgreSQL that can't be reached is tried again, and the store is not ready.
     ///
     /// # Errors
     ///
-    /// `Unusable`: they name none, or one that can't be opened.
-    pub async fn open(words: &str) -> Result<Store, Error> {
-        match words {
-            "memory" => Ok(Store::Memory(Memory::default())),
-            _ => Err(Error::Unusable(format!("{words} is no store"))),
+    /// `Unusable`: it can't be opened.
+    pub async fn open(words: &str, lease: Duration) -> Result<Store, Error> {
+        if words == "memory" {
+            return Ok(Store::Memory(Memory::default()));
         }
+        let name = words.to_owned();
+        let steps = if ["postgres://", "postgresql://"].iter().any(|it| words.starts_with(it)) {
+            writer::start(move || Postgres::open(&name, lease)).await?
+        } else {
+            writer::start(move || Sqlite::open(Path::new(&name))).await?
+        };
+        Ok(Store::Written(steps))
     }
 
     /// Begins a request, before anything of it is sent. Where it was begun before and is not
@@ -115,8 +141,10 @@ impl Store {
     ///
     /// `Away`, `Unusable`: nothing is begun, or it is undone once the store can be reached.
     pub async fn begin(&self, key: &Key, expiration: u64) -> Result<Begun, Error> {
+        taken("begin");
         match self {
             Store::Memory(store) => store.begin(key, expiration).await,
+            Store::Written(steps) => steps.begin(key, expiration).await,
         }
     }
 
@@ -126,10 +154,12 @@ impl Store {
     ///
     /// # Errors
     ///
-    /// `Forgotten`.
+    /// `Forgotten`; `Away`: the store is closed.
     pub async fn finish(&self, key: &Key, outcome: Outcome) -> Result<Outcome, Error> {
+        taken("finish");
         match self {
             Store::Memory(store) => store.finish(key, outcome),
+            Store::Written(steps) => steps.finish(key, outcome).await,
         }
     }
 
@@ -138,13 +168,15 @@ impl Store {
     ///
     /// # Errors
     ///
-    /// `Unusable`.
+    /// `Away`: the store is closed.
     pub async fn undo(&self, key: &Key) -> Result<(), Error> {
+        taken("undo");
         match self {
             Store::Memory(store) => {
                 store.undo(key);
                 Ok(())
             }
+            Store::Written(steps) => steps.undo(key).await,
         }
     }
 
@@ -155,8 +187,10 @@ impl Store {
     ///
     /// `Away`, `Unusable`.
     pub async fn purge(&self, now: u64) -> Result<u64, Error> {
+        taken("purge");
         match self {
             Store::Memory(store) => Ok(store.purge(now)),
+            Store::Written(steps) => steps.purge(now).await,
         }
     }
 
@@ -164,6 +198,14 @@ impl Store {
     pub async fn ready(&self) -> bool {
         match self {
             Store::Memory(_) => true,
+            Store::Written(steps) => steps.is_ready(),
+        }
+    }
+
+    /// Ends it: what this guard has begun and not finished is of a guard that lives no more.
+    pub async fn close(&self) {
+        if let Store::Written(steps) = self {
+            steps.close().await;
         }
     }
 }

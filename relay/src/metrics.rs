@@ -1,0 +1,268 @@
+//! Counters, as Prometheus reads them, and whether this relay is ready, by HTTP.
+
+use prometheus::core::Collector;
+use prometheus::{
+    Gauge, Histogram, HistogramOpts, IntCounter, IntCounterVec, IntGauge, Opts, Registry,
+    TextEncoder,
+};
+use std::collections::BTreeMap;
+use std::future::Future;
+use std::io;
+use std::pin::Pin;
+use std::sync::{Arc, Mutex, OnceLock, PoisonError};
+use std::time::{Duration, Instant};
+use tokio::io::{AsyncReadExt, AsyncWriteExt};
+use tokio::net::{TcpListener, TcpStream};
+use tokio::sync::Semaphore;
+use tokio::time::{sleep, timeout};
+
+/// The longest head of a request, and how long who sends one may take.
+const HEAD: usize = 8192;
+const PATIENCE: Duration = Duration::from_secs(5);
+/// How many are answered at once.
+const AT_ONCE: usize = 16;
+
+/// What is counted.
+pub struct Metrics {
+    registry: Registry,
+    /// Requests that came, by whether they have a key.
+    pub requests: IntCounterVec,
+    /// Requests that were sent to a server.
+    pub performed: IntCounter,
+    /// Requests that were answered by an outcome that was kept.
+    pub repeats: IntCounter,
+    /// Requests of which nothing is kept, by the exception that was told.
+    pub refused: IntCounterVec,
+    /// Requests of which was told that nobody knows.
+    pub maybe: IntCounter,
+    /// Connections of clients, and those that ended, by why.
+    pub connections: IntGauge,
+    pub ended: IntCounterVec,
+    /// Steps of the store that were asked for, and how many wait for what another has begun.
+    pub steps: IntCounterVec,
+    pub waiting: IntGauge,
+    /// How long a transaction of the store took, and how many steps it had.
+    pub writes: Histogram,
+    pub batches: Histogram,
+    parked: IntGauge,
+    oldest: Gauge,
+    /// Since when what is under way is, in the order in which it came.
+    since: Mutex<(u64, BTreeMap<u64, Instant>)>,
+}
+
+/// A request that is under way, as long as this is there.
+pub struct Parked(u64);
+
+/// What is counted of this process.
+pub fn metrics() -> &'static Metrics {
+    static METRICS: OnceLock<Metrics> = OnceLock::new();
+    METRICS.get_or_init(Metrics::new)
+}
+
+/// Has a registry give something.
+fn taken<C: Collector + Clone + 'static>(registry: &Registry, made: prometheus::Result<C>) -> C {
+    let made = made.expect("a name of the letters that are allowed");
+    registry.register(Box::new(made.clone())).expect("a name that no other has");
+    made
+}
+
+fn name_of(name: &str) -> String {
+    format!("lemonrudder_{name}")
+}
+
+/// Counts of what differs in one word.
+fn counts(registry: &Registry, name: &str, help: &str, word: &str) -> IntCounterVec {
+    taken(registry, IntCounterVec::new(Opts::new(name_of(name), help), &[word]))
+}
+
+fn count(registry: &Registry, name: &str, help: &str) -> IntCounter {
+    taken(registry, IntCounter::new(name_of(name), help))
+}
+
+fn gauge(registry: &Registry, name: &str, help: &str) -> IntGauge {
+    taken(registry, IntGauge::new(name_of(name), help))
+}
+
+fn histogram(registry: &Registry, name: &str, help: &str, start: f64) -> Histogram {
+    let buckets = prometheus::exponential_buckets(start, 2.0, 14).expect("buckets that grow");
+    let options = HistogramOpts::new(name_of(name), help).buckets(buckets);
+    taken(registry, Histogram::with_opts(options))
+}
+
+impl Metrics {
+    fn new() -> Metrics {
+        let registry = Registry::new();
+        let it = &registry;
+        let oldest = ("oldest_parked_seconds", "For how long the oldest request is under way");
+        Metrics {
+            requests: counts(it, "requests_total", "Requests that came", "keyed"),
+            performed: count(it, "performed_total", "Requests that were sent to a server"),
+            repeats: count(it, "repeats_total", "Requests answered by an outcome that was kept"),
+            refused: counts(it, "refused_total", "Requests of which nothing is kept", "reason"),
+            maybe: count(it, "maybe_total", "Requests told that nobody knows"),
+            connections: gauge(it, "connections", "Connections of clients"),
+            ended: counts(it, "connections_ended_total", "Connections that ended", "why"),
+            steps: counts(it, "store_steps_total", "Steps that were taken in the store", "step"),
+            waiting: gauge(it, "store_waiting", "Requests that wait for their first transmission"),
+            writes: histogram(it, "store_write_seconds", "Time of a transaction", 0.0001),
+            batches: histogram(it, "store_write_steps", "Steps of a transaction", 1.0),
+            parked: gauge(it, "parked", "Requests under way"),
+            oldest: taken(it, Gauge::new(name_of(oldest.0), oldest.1)),
+            since: Mutex::default(),
+            registry,
+        }
+    }
+
+    /// Counts a request as under way, until what is answered is dropped.
+    #[must_use]
+    pub fn park(&self) -> Parked {
+        let mut since = self.since.lock().unwrap_or_else(PoisonError::into_inner);
+        since.0 += 1;
+        let number = since.0;
+        since.1.insert(number, Instant::now());
+        self.parked.inc();
+        Parked(number)
+    }
+
+    /// All of it, as Prometheus reads it.
+    pub fn text(&self) -> String {
+        let since = self.since.lock().unwrap_or_else(PoisonError::into_inner);
+        let oldest = since.1.values().next().map_or(Duration::ZERO, Instant::elapsed);
+        drop(since);
+        self.oldest.set(oldest.as_secs_f64());
+        TextEncoder::new().encode_to_string(&self.registry.gather()).unwrap_or_default()
+    }
+}
+
+impl Drop for Parked {
+    fn drop(&mut self) {
+        let all = metrics();
+        all.since.lock().unwrap_or_else(PoisonError::into_inner).1.remove(&self.0);
+        all.parked.dec();
+    }
+}
+
+/// What keeps a relay from being ready, if anything does.
+pub type Trouble = Pin<Box<dyn Future<Output = Option<String>> + Send>>;
+
+/// What says it, each time that it is asked.
+pub trait Ready: Fn() -> Trouble + Send + Sync + 'static {}
+
+impl<F: Fn() -> Trouble + Send + Sync + 'static> Ready for F {}
+
+/// Answers `/metrics` and `/ready` at an address, `HOST:PORT`, from now on.
+///
+/// # Errors
+///
+/// Says why it can't.
+pub async fn listen(address: &str, ready: impl Ready) -> Result<(), String> {
+    let listener = TcpListener::bind(address).await;
+    let listener = listener.map_err(|error| format!("{address}: {error}"))?;
+    tokio::spawn(serve(listener, ready));
+    Ok(())
+}
+
+async fn serve(listener: TcpListener, ready: impl Ready) {
+    let (ready, places) = (Arc::new(ready), Arc::new(Semaphore::new(AT_ONCE)));
+    while let Ok(place) = places.clone().acquire_owned().await {
+        let Ok((mut socket, _)) = listener.accept().await else {
+            sleep(PATIENCE).await;
+            continue;
+        };
+        let ready = ready.clone();
+        tokio::spawn(async move {
+            _ = timeout(PATIENCE, answer(&mut socket, &*ready)).await;
+            drop(place);
+        });
+    }
+}
+
+/// The response to the first line of a request: its status, and its text.
+async fn response(line: &str, ready: &impl Ready) -> (&'static str, String) {
+    let mut words = line.split(' ');
+    let path = match words.next() {
+        Some("GET" | "HEAD") => words.next().unwrap_or_default(),
+        _ => return ("405 Method Not Allowed", String::new()),
+    };
+    match path {
+        "/metrics" => ("200 OK", metrics().text()),
+        "/ready" => match ready().await {
+            None => ("200 OK", "ready\n".into()),
+            Some(why) => ("503 Service Unavailable", format!("{why}\n")),
+        },
+        _ => ("404 Not Found", String::new()),
+    }
+}
+
+/// Answers one request (HTTP/1.0, RFC 1945), and says goodbye.
+async fn answer(socket: &mut TcpStream, ready: &impl Ready) -> io::Result<()> {
+    let mut head = Vec::new();
+    let mut room = [0; 1024];
+    while !head.windows(4).any(|four| four == b"\r\n\r\n") {
+        let size = socket.read(&mut room).await?;
+        if size == 0 || head.len() > HEAD {
+            return Ok(());
+        }
+        head.extend_from_slice(&room[..size]);
+    }
+    let line = head.split(|octet| *octet == b'\r').next().unwrap_or(&[]);
+    let line = String::from_utf8_lossy(line);
+    let (status, text) = response(&line, ready).await;
+    let length = text.len();
+    let body = if line.starts_with("HEAD ") { "" } else { text.as_str() };
+    let said = format!(
+        "HTTP/1.0 {status}\r\nContent-Type: text/plain; version=0.0.4\r\n\
+         Content-Length: {length}\r\nConnection: close\r\n\r\n{body}"
+    );
+    socket.write_all(said.as_bytes()).await?;
+    socket.shutdown().await
+}
+
+#[cfg(test)]
+mod tests {
+    use super::*;
+    use std::sync::atomic::{AtomicBool, Ordering};
+
+    async fn asked(address: std::net::SocketAddr, words: &str) -> String {
+        let mut socket = TcpStream::connect(address).await.unwrap();
+        socket.write_all(words.as_bytes()).await.unwrap();
+        let mut said = String::new();
+        socket.read_to_string(&mut said).await.unwrap();
+        said
+    }
+
+    #[tokio::test]
+    async fn counters_and_readiness_are_told() {
+        let listener = TcpListener::bind("127.0.0.1:0").await.unwrap();
+        let address = listener.local_addr().unwrap();
+        let away = Arc::new(AtomicBool::new(false));
+        let is_away = away.clone();
+        tokio::spawn(serve(listener, move || {
+            let trouble = is_away.load(Ordering::SeqCst).then(|| "the store is away".to_owned());
+            Box::pin(async move { trouble }) as Trouble
+        }));
+        metrics().ended.with_label_values(&["its socket failed"]).inc_by(3);
+        let parked = metrics().park();
+        let said = asked(address, "GET /metrics HTTP/1.1\r\nHost: here\r\n\r\n").await;
+        assert!(said.starts_with("HTTP/1.0 200 OK\r\n"), "{said}");
+        let line = "\nlemonrudder_connections_ended_total{why=\"its socket failed\"} 3\n";
+        assert!(said.contains(line) && said.contains("\nlemonrudder_parked 1\n"), "{said}");
+        let body = said.split_once("\r\n\r\n").unwrap().1;
+        assert!(said.contains(&format!("\r\nContent-Length: {}\r\n", body.len())), "{said}");
+        drop(parked);
+        let said = asked(address, "HEAD /metrics HTTP/1.0\r\n\r\n").await;
+        assert!(said.ends_with("\r\n\r\n"), "{said}");
+        assert!(metrics().text().contains("\nlemonrudder_parked 0\n"));
+        for (line, is_away, status) in [
+            ("GET /ready HTTP/1.0", false, "200 OK"),
+            ("GET /ready HTTP/1.0", true, "503 Service Unavailable"),
+            ("GET / HTTP/1.0", true, "404 Not Found"),
+            ("POST /ready HTTP/1.0", true, "405 Method Not Allowed"),
+        ] {
+            away.store(is_away, Ordering::SeqCst);
+            let said = asked(address, &format!("{line}\r\n\r\n")).await;
+            assert!(said.starts_with(&format!("HTTP/1.0 {status}\r\n")), "{said}");
+            assert_eq!(said.ends_with("the store is away\n"), status.starts_with("503"));
+        }
+    }
+}
