@@ -78,7 +78,7 @@ impl Upstream {
     /// reached.
     pub async fn checks(self: &Arc<Self>) {
         let mut answered = self.answered.lock().await;
-        if !self.is_up() || answered.map_or(false, |at| at.elapsed() < TRUST) {
+        if !self.is_up() || answered.is_some_and(|at| at.elapsed() < TRUST) {
             return;
         }
         match self.answers().await {
