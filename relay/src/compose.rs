@@ -180,9 +180,11 @@ mod tests {
     #[test]
     fn a_request_has_its_body_at_its_place() {
         for version in VERSIONS {
-            for (order, key, place) in ORDERS.into_iter().flat_map(|order| {
-                (0..64).map(move |n: u8| (order, usize::from(n / 8), u64::from(n % 8)))
-            }) {
+            for (order, key, place) in ORDERS
+                .into_iter()
+                .flat_map(|order| (0..64).map(move |n| (order, n / 8, n % 8)))
+                .map(|(order, key, place): (_, u8, u8)| (order, key.into(), place.into()))
+            {
                 let body = Body { octets: b"abcdefg".to_vec(), place };
                 let head = head(version, order, key);
                 let made = request(&head, 9, &body);

@@ -3,7 +3,7 @@
 
 use crate::access::Clients;
 use crate::forward::{Answer, Ft, Guarded};
-use crate::front::{self, Answering, Asked, Bounds, Role};
+use crate::front::{self, Answering, Asked, Bounds, Peer, Role};
 use crate::metrics::{self, metrics, Trouble};
 use crate::points::point;
 use crate::pool::{Loss, Places, Pool, Reply};
@@ -211,8 +211,10 @@ impl Guard {
     async fn keyed(&self, asked: Asked, ft: &Ft) -> Answer {
         let declined = || refused("TRANSIENT", DECLINED, Completed::No);
         let bad = || refused("BAD_CONTEXT", 0, Completed::No);
-        let names = &asked.peer.names;
+        let Peer { number, address, names } = &*asked.peer;
         if self.access.as_ref().is_some_and(|it| !it.may(names, &ft.key.client)) {
+            let client = String::from_utf8_lossy(&ft.key.client);
+            warn!(number, peer = %address, ?names, %client, "it may not use this client id");
             return refused("NO_PERMISSION", 0, Completed::No);
         }
         if ft.expiration < Moment::now() {
@@ -229,10 +231,8 @@ impl Guard {
                 return outcome.into();
             }
             Ok(Begun::Expired) => return bad(),
-            Err(error) => {
-                warn!(%error, "the store");
-                return declined();
-            }
+            // (why it is away is in the log, once)
+            Err(_) => return declined(),
         }
         point("begun");
         let answer = match self.sends(asked, false).await {

@@ -142,3 +142,146 @@ pub fn faults(settings: &Tls) -> Vec<String> {
     faults.dedup();
     faults
 }
+
+#[cfg(test)]
+pub mod tests {
+    use super::*;
+    use openssl::asn1::Asn1Time;
+    use openssl::bn::BigNum;
+    use openssl::ec::{EcGroup, EcKey};
+    use openssl::hash::MessageDigest;
+    use openssl::pkey::{PKey, Private};
+    use openssl::x509::extension::{BasicConstraints, SubjectAlternativeName};
+    use openssl::x509::{X509Name, X509};
+    use std::fs;
+    use std::path::PathBuf;
+    use tokio::io::{AsyncReadExt, AsyncWriteExt};
+    use tokio::net::TcpListener;
+
+    /// A certificate, and its key.
+    pub type Pair = (X509, PKey<Private>);
+
+    /// A certificate of a name, of an authority or of itself. Of an authority it has a DNS name, too.
+    pub fn pair(name: &str, dns: &str, issuer: Option<&Pair>) -> Pair {
+        let group = EcGroup::from_curve_name(Nid::X9_62_PRIME256V1).unwrap();
+        let key = PKey::from_ec_key(EcKey::generate(&group).unwrap()).unwrap();
+        let mut subject = X509Name::builder().unwrap();
+        subject.append_entry_by_nid(Nid::COMMONNAME, name).unwrap();
+        let subject = subject.build();
+        let mut it = X509::builder().unwrap();
+        it.set_version(2).unwrap();
+        let serial = BigNum::from_u32(u32::try_from(name.len()).unwrap()).unwrap();
+        it.set_serial_number(&serial.to_asn1_integer().unwrap()).unwrap();
+        it.set_subject_name(&subject).unwrap();
+        it.set_issuer_name(issuer.map_or(&*subject, |(of, _)| of.subject_name())).unwrap();
+        it.set_not_before(&Asn1Time::days_from_now(0).unwrap()).unwrap();
+        it.set_not_after(&Asn1Time::days_from_now(2).unwrap()).unwrap();
+        it.set_pubkey(&key).unwrap();
+        if issuer.is_some() {
+            let mut names = SubjectAlternativeName::new();
+            let names = names.dns(dns).build(&it.x509v3_context(None, None)).unwrap();
+            it.append_extension(names).unwrap();
+        } else {
+            it.append_extension(BasicConstraints::new().critical().ca().build().unwrap()).unwrap();
+        }
+        it.sign(issuer.map_or(&key, |(_, key)| key), MessageDigest::sha256()).unwrap();
+        (it.build(), key)
+    }
+
+    /// A folder of two authorities, `ours` and `other`, and of certificates of each.
+    fn folder(name: &str) -> PathBuf {
+        let folder =
+            std::env::temp_dir().join(format!("lemonrudder-{}-{name}", std::process::id()));
+        fs::create_dir_all(&folder).unwrap();
+        for authority in ["ours", "other"] {
+            let root = pair(authority, "", None);
+            fs::write(folder.join(authority), root.0.to_pem().unwrap()).unwrap();
+            for name in ["guard", "bank"] {
+                let (certificate, key) = pair(name, &format!("{name}.example"), Some(&root));
+                let name = folder.join(format!("{authority}-{name}"));
+                fs::write(&name, certificate.to_pem().unwrap()).unwrap();
+                let key = key.private_key_to_pem_pkcs8().unwrap();
+                fs::write(name.with_extension("key"), key).unwrap();
+            }
+        }
+        folder
+    }
+
+    /// Settings by the names of files, of which an empty one is none.
+    fn settings(folder: &Path, certificate: &str, key: &str, authorities: &str) -> Tls {
+        let file = |name: &str| (!name.is_empty()).then(|| folder.join(name));
+        Tls { certificate: file(certificate), key: file(key), authorities: file(authorities) }
+    }
+
+    /// What a guard takes the peer for, and what comes back to it.
+    async fn talk(
+        guard: &Tls,
+        client: &Tls,
+        host: &str,
+    ) -> (io::Result<Vec<String>>, io::Result<u8>) {
+        let listener = TcpListener::bind("127.0.0.1:0").await.unwrap();
+        let address = listener.local_addr().unwrap();
+        let acceptor = Acceptor::open(guard).unwrap().unwrap();
+        let accepts = tokio::spawn(async move {
+            let (mut stream, names) = acceptor.accept(listener.accept().await?.0).await?;
+            stream.write_all(b"7").await?;
+            Ok(names)
+        });
+        let socket = TcpStream::connect(address).await.unwrap();
+        let connector = Connector::open(client).unwrap().unwrap();
+        let came = async {
+            let mut stream = connector.connect(host, socket).await?;
+            stream.read_u8().await
+        };
+        let came = came.await;
+        (accepts.await.unwrap(), came)
+    }
+
+    #[tokio::test]
+    async fn each_side_shows_a_certificate() {
+        let folder = folder("sides");
+        let guard = settings(&folder, "ours-guard", "ours-guard.key", "ours");
+        for (certificate, authorities, host, is_heard) in [
+            ("ours-bank", "ours", "guard.example", true),
+            ("ours-bank", "ours", "bank.example", false),
+            ("ours-bank", "other", "guard.example", false),
+            ("other-bank", "ours", "guard.example", false),
+            ("", "ours", "guard.example", false),
+        ] {
+            let key = format!("{certificate}.key");
+            let key = if certificate.is_empty() { "" } else { &key };
+            let client = settings(&folder, certificate, key, authorities);
+            let (names, came) = talk(&guard, &client, host).await;
+            assert_eq!(came.is_ok(), is_heard, "{certificate} {authorities} {host}");
+            let names = names.ok();
+            assert_eq!(names.is_some(), is_heard, "{certificate} {authorities} {host}");
+            assert!(!is_heard || names.unwrap() == ["bank", "bank.example"]);
+        }
+        // a guard without authorities asks for none
+        let guard = settings(&folder, "ours-guard", "ours-guard.key", "");
+        let (names, came) = talk(&guard, &settings(&folder, "", "", "ours"), "guard.example").await;
+        assert_eq!((names.unwrap(), came.unwrap()), (vec![], b'7'));
+        fs::remove_dir_all(folder).unwrap();
+    }
+
+    #[test]
+    fn a_fault_is_a_line() {
+        let folder = folder("faults");
+        for (certificate, key, authorities, file) in [
+            ("ours-guard", "ours-guard.key", "ours", ""),
+            ("", "", "", ""),
+            ("ours-guard", "ours-bank.key", "", "ours-bank.key"),
+            ("nowhere", "ours-guard.key", "", "nowhere"),
+            ("ours-guard.key", "ours-guard.key", "", "ours-guard.key"),
+            ("ours-guard", "ours-guard", "", "ours-guard"),
+            ("", "", "ours-guard.key", "ours-guard.key"),
+        ] {
+            let found = faults(&settings(&folder, certificate, key, authorities));
+            let begin = format!("{}: ", folder.join(file).display());
+            assert_eq!(found.len(), usize::from(!file.is_empty()), "{certificate}: {found:?}");
+            let is_said = |it: &String| it.starts_with(&begin) && !it.contains('\n');
+            assert!(found.iter().all(is_said), "{found:?}");
+        }
+        fs::remove_dir_all(folder).unwrap();
+    }
+}

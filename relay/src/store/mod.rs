@@ -7,6 +7,7 @@
 
 mod memory;
 mod postgres;
+mod secured;
 mod sqlite;
 #[cfg(test)]
 mod tests;

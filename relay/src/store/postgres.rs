@@ -5,6 +5,7 @@
 //! an advisory lock with others, and one that takes out expired rows has it alone, so that W is
 //! never read while it is raised.
 
+use super::secured::Secured;
 use super::writer::{Database, Done, Step};
 use super::{Begun, Error, Key, Outcome};
 use futures_util::future::{poll_fn, try_join_all};
@@ -14,7 +15,7 @@ use std::sync::Arc;
 use std::time::Duration;
 use tokio::sync::watch;
 use tokio::time::{sleep, timeout, timeout_at, Instant};
-use tokio_postgres::config::TargetSessionAttrs;
+use tokio_postgres::config::{SslMode, TargetSessionAttrs};
 use tokio_postgres::types::ToSql;
 use tokio_postgres::{AsyncMessage, Client, Config, Connection, NoTls, Row, Socket, Statement};
 
@@ -361,11 +362,24 @@ impl Postgres {
         Ok(Postgres { config, lease, guard, link, before, renewed: now, tells, news, looked: now })
     }
 
+    /// A session: over TLS, where the address says so.
+    async fn session(&self) -> Result<Client, Error> {
+        if self.config.get_ssl_mode() != SslMode::Require {
+            let (client, connection) =
+                self.config.connect(NoTls).await.map_err(|error| away(&error))?;
+            tokio::spawn(drive(connection, self.tells.clone()));
+            return Ok(client);
+        }
+        let secured = Secured::new().map_err(|error| Error::Unusable(error.to_string()))?;
+        let (client, connection) =
+            self.config.connect(secured).await.map_err(|error| away(&error))?;
+        tokio::spawn(drive(connection, self.tells.clone()));
+        Ok(client)
+    }
+
     /// Connects, takes up this guard's life, and ends what the session before had under way.
     async fn connect(&mut self) -> Result<Link, Error> {
-        let (client, connection) =
-            self.config.connect(NoTls).await.map_err(|error| away(&error))?;
-        tokio::spawn(drive(connection, self.tells.clone()));
+        let client = self.session().await?;
         let version = prepare(&client).await.map_err(|error| away(&error))?;
         if version != VERSION {
             let why = format!("PostgreSQL: its tables are of version {version}, not {VERSION}");

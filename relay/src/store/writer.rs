@@ -23,7 +23,7 @@ const MOST: usize = 1024;
 const PAUSE: Duration = Duration::from_millis(200);
 
 /// A step of a request, or a purge.
-#[derive(Clone, Debug)]
+#[derive(Debug)]
 pub enum Step {
     Begin(Key, u64),
     Finish(Key, Outcome),
@@ -278,18 +278,20 @@ impl<D: Database> Writer<D> {
 
     /// Writes steps in one transaction.
     async fn write(&mut self, batch: Vec<Job>) {
-        let steps: Vec<Step> = batch.iter().map(|job| job.step.clone()).collect();
+        let (steps, callers): (Vec<Step>, Vec<_>) =
+            batch.into_iter().map(|job| (job.step, job.caller)).unzip();
         let began = Instant::now();
         let written = self.database.write(&steps).await;
         metrics().writes.observe(began.elapsed().as_secs_f64());
         metrics().batches.observe(precise(steps.len()));
+        let batch = steps.into_iter().zip(callers).map(|(step, caller)| Job { step, caller });
         match written {
             Ok(dones) => {
                 if self.trouble.take().is_some() {
                     info!("the store can be written again");
                 }
                 self.is_ready.store(true, Ordering::Relaxed);
-                for (job, done) in batch.into_iter().zip(dones) {
+                for (job, done) in batch.zip(dones) {
                     self.done(job, done);
                 }
             }
@@ -298,7 +300,7 @@ impl<D: Database> Writer<D> {
                     error!("the store: {why}");
                 }
                 self.is_ready.store(false, Ordering::Relaxed);
-                self.failed(batch);
+                self.failed(batch.collect());
                 self.trouble = Some(why);
                 self.next = Instant::now() + PAUSE;
             }

@@ -2,6 +2,7 @@
 //! runs them leaves them out by their name.
 
 use super::*;
+use crate::tls::tests::pair;
 use std::env;
 use std::io::{BufRead, BufReader, Write};
 use std::net::TcpListener;
@@ -138,11 +139,12 @@ struct Process {
 }
 
 impl Process {
-    fn new(server: &Database) -> Process {
+    fn new(address: &str, authorities: &Path) -> Process {
         let name = "store::tests::postgres::postgres_process";
         let mut command = Command::new(env::current_exe().unwrap());
         command.args(["--exact", name, "--ignored", "--nocapture", "--quiet"]);
-        command.env(OF_PROCESS, server.address()).stdin(Stdio::piped()).stdout(Stdio::piped());
+        command.env(OF_PROCESS, address).env("SSL_CERT_FILE", authorities);
+        command.stdin(Stdio::piped()).stdout(Stdio::piped());
         let mut child = command.spawn().unwrap();
         let (to, from) = (child.stdin.take().unwrap(), child.stdout.take().unwrap());
         Process { child, to, from: BufReader::new(from) }
@@ -177,9 +179,6 @@ async fn postgres_process() {
     let Ok(address) = env::var(OF_PROCESS) else { return };
     let store = Store::open(&address, Duration::from_secs(1)).await.unwrap();
     let mut taker = Taker::new(store);
-    while !taker.store.ready().await {
-        tokio::time::sleep(Duration::from_millis(10)).await;
-    }
     println!();
     for line in std::io::stdin().lines() {
         println!("=> {}", taker.take(&line.unwrap()).await);
@@ -236,8 +235,10 @@ async fn postgres_has_two_guards() {
 #[tokio::test]
 async fn postgres_guard_is_stopped_past_its_lease() {
     let server = Database::new("stopped").await;
-    let mut process = Process::new(&server);
-    for step in ["begin a 1 100", "begin a 2 100", "begin a 3 100", "begin a 4 100"] {
+    let mut process = Process::new(&server.address(), Path::new(""));
+    // (it declines until it is connected)
+    while process.take("begin a 1 100") != "new" {}
+    for step in ["begin a 2 100", "begin a 3 100", "begin a 4 100"] {
         assert_eq!(process.take(step), "new");
     }
     assert_eq!(process.take("finish a 3 three"), "three");
@@ -326,4 +327,45 @@ async fn postgres_reads_w_under_a_lock() {
     purge.commit().await.unwrap();
     assert_eq!(begins.await.unwrap(), "expired");
     guard.table("begin a 1 101 | new").await;
+}
+
+#[tokio::test]
+async fn postgres_over_tls() {
+    let server = Arc::new(Server::new("tls"));
+    let (root, other) = (pair("root", "", None), pair("other", "", None));
+    let (certificate, key) = pair("postgres", "localhost", Some(&root));
+    let written = |name: &str, text: Vec<u8>| {
+        let file = server.folder.join("data").join(name);
+        std::fs::write(&file, text).unwrap();
+        file
+    };
+    let root = written("root.crt", root.0.to_pem().unwrap());
+    let other = written("other.crt", other.0.to_pem().unwrap());
+    let key = written("server.key", key.private_key_to_pem_pkcs8().unwrap());
+    let certificate = written("server.crt", certificate.to_pem().unwrap());
+    for file in [&key, &certificate] {
+        let mode = std::os::unix::fs::PermissionsExt::from_mode(0o600);
+        std::fs::set_permissions(file, mode).unwrap();
+        if is_root() {
+            assert!(Command::new("chown").arg("postgres").arg(file).status().unwrap().success());
+        }
+    }
+    let whole = Database { server: server.clone(), name: "postgres" };
+    whole.say("ALTER SYSTEM SET ssl = on").await;
+    server.stop();
+    server.start();
+    let address =
+        |host: &str| format!("postgres://postgres@{host}:{}/postgres?sslmode=require", server.port);
+    let mut process = Process::new(&address("localhost"), &root);
+    while process.take("begin a 1 100") != "new" {}
+    let count = "SELECT 1 FROM pg_stat_ssl JOIN pg_stat_activity USING (pid)
+        WHERE ssl AND application_name = 'lemonrudder'";
+    assert_eq!(whole.say(count).await, 1);
+    // of another host, and of an authority that is not trusted
+    for (host, authorities) in [("127.0.0.1", &root), ("localhost", &other)] {
+        let mut process = Process::new(&address(host), authorities);
+        for _ in 0..3 {
+            assert_eq!(process.take("purge 1"), "away");
+        }
+    }
 }
