@@ -2,12 +2,15 @@
 
 use crate::compose;
 use crate::forward::{self, Answer, Request, CODE_SETS};
+use crate::frames::{Frames, Taken};
 use crate::metrics::metrics;
 use crate::points::point;
 use crate::settings;
 use crate::tls::Acceptor;
 use crate::wire::{self, locked, Stream};
-use lemonrudder::{write, Assembler, Limits, LocateStatus, Message, MessageType, Version, Wish};
+use lemonrudder::{
+    write, Assembler, Completed, Limits, LocateStatus, Message, MessageType, Version, Wish,
+};
 use std::collections::HashMap;
 use std::future::Future;
 use std::net::{IpAddr, SocketAddr};
@@ -34,8 +37,6 @@ const REQUESTS: u16 = 256;
 /// A client's connection.
 #[derive(Debug)]
 pub struct Peer {
-    pub number: u64,
-    pub address: SocketAddr,
     /// The names in the certificate that it showed.
     pub names: Vec<String>,
 }
@@ -144,7 +145,9 @@ pub async fn serve<R: Role>(
     for listener in listeners {
         accepting.spawn(accepts(front.clone(), listener, peers.clone()));
     }
+    wire::notify("READY=1");
     stop.await;
+    wire::notify("STOPPING=1");
     accepting.shutdown().await;
     _ = stopping.send(true);
     let ended = timeout(drain, async {
@@ -175,7 +178,7 @@ async fn accepts<R: Role>(front: Arc<Front<R>>, listener: TcpListener, peers: Ar
         let front = front.clone();
         tokio::spawn(async move {
             metrics().connections.inc();
-            let why = attends(&front, number, socket, address).await;
+            let why = attends(&front, socket, address).await;
             metrics().connections.dec();
             metrics().ended.with_label_values(&[why]).inc();
             info!(number, peer = %address, why, "connection ended");
@@ -187,7 +190,6 @@ async fn accepts<R: Role>(front: Arc<Front<R>>, listener: TcpListener, peers: Ar
 /// Attends to a connection, and answers why it ended.
 async fn attends<R: Role>(
     front: &Arc<Front<R>>,
-    number: u64,
     socket: TcpStream,
     address: SocketAddr,
 ) -> &'static str {
@@ -195,7 +197,7 @@ async fn attends<R: Role>(
     let Some(_place) = Place::of(front, address.ip()) else { return "its address has too many" };
     let accepted = wire::accept(socket, front.tls.as_ref(), limits.handshake).await;
     let Ok((stream, names)) = accepted else { return "no handshake" };
-    let peer = Arc::new(Peer { number, address, names });
+    let peer = Arc::new(Peer { names });
     let (mut reading, writing) = tokio::io::split(stream);
     let (due, dues) = mpsc::channel(DUE);
     let mut writer = tokio::spawn(writes(writing, dues, limits.stalled));
@@ -203,6 +205,7 @@ async fn attends<R: Role>(
     let mut talk = Talk {
         front: front.clone(),
         peer,
+        frames: Frames::new(limits.message.min(compose::LONGEST)),
         assembler,
         sets: None,
         cancels: Cancels::default(),
@@ -293,6 +296,7 @@ impl Why {
 struct Talk<R> {
     front: Arc<Front<R>>,
     peer: Arc<Peer>,
+    frames: Frames,
     assembler: Assembler,
     /// The code sets that were said on it.
     sets: Option<Vec<u8>>,
@@ -344,6 +348,19 @@ impl<R: Role> Talk<R> {
 
     /// Takes octets that came.
     async fn takes(&mut self, mut octets: &[u8]) -> Result<(), Why> {
+        while !octets.is_empty() {
+            let taken = self.frames.take(&mut octets);
+            if let Taken::Long { version, id, is_wished: true } = taken {
+                let long = Answer::system("IMP_LIMIT", 0, Completed::No);
+                _ = self.due.send(long.reply(version, id)).await;
+            }
+            self.hears(taken.octets()).await?;
+        }
+        Ok(())
+    }
+
+    /// Hears the messages that octets complete.
+    async fn hears(&mut self, mut octets: &[u8]) -> Result<(), Why> {
         while !octets.is_empty() {
             let fed = self.assembler.feed(octets).map_err(|_| Why::Fault)?;
             octets = &octets[fed..];
