@@ -37,6 +37,8 @@ const REQUESTS: u16 = 256;
 /// A client's connection.
 #[derive(Debug)]
 pub struct Peer {
+    pub number: u64,
+    pub address: SocketAddr,
     /// The names in the certificate that it showed.
     pub names: Vec<String>,
 }
@@ -178,7 +180,7 @@ async fn accepts<R: Role>(front: Arc<Front<R>>, listener: TcpListener, peers: Ar
         let front = front.clone();
         tokio::spawn(async move {
             metrics().connections.inc();
-            let why = attends(&front, socket, address).await;
+            let why = attends(&front, number, socket, address).await;
             metrics().connections.dec();
             metrics().ended.with_label_values(&[why]).inc();
             info!(number, peer = %address, why, "connection ended");
@@ -190,6 +192,7 @@ async fn accepts<R: Role>(front: Arc<Front<R>>, listener: TcpListener, peers: Ar
 /// Attends to a connection, and answers why it ended.
 async fn attends<R: Role>(
     front: &Arc<Front<R>>,
+    number: u64,
     socket: TcpStream,
     address: SocketAddr,
 ) -> &'static str {
@@ -197,7 +200,7 @@ async fn attends<R: Role>(
     let Some(_place) = Place::of(front, address.ip()) else { return "its address has too many" };
     let accepted = wire::accept(socket, front.tls.as_ref(), limits.handshake).await;
     let Ok((stream, names)) = accepted else { return "no handshake" };
-    let peer = Arc::new(Peer { names });
+    let peer = Arc::new(Peer { number, address, names });
     let (mut reading, writing) = tokio::io::split(stream);
     let (due, dues) = mpsc::channel(DUE);
     let mut writer = tokio::spawn(writes(writing, dues, limits.stalled));
