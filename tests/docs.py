@@ -17,7 +17,7 @@ from scripts import contracts
 ROOT = os.path.dirname(os.path.dirname(os.path.abspath(__file__)))
 # the most octets of a page, and of all that is written by hand together
 SIZES = {
-    "README.md": 9_000,
+    "README.md": 9_250,
     "docs/PROMISES.md": 26_500,
     "docs/READING.md": 10_000,
     "docs/ARCHITECTURE.md": 10_000,

@@ -32,12 +32,8 @@ OF_PROGRAMS = [
 OF_LIBRARY = [
     "tests.embedding", "tests.embed.deeds_test", "tests.embed.first_programs", "tests.embed.python_test",
     "tests.embed.store_test", "tests.embed.durable_test", "tests.embed.rust_test",
-<<<<<<< HEAD
-    "tests.relay.guard_test", "tests.relay.retry_test", "tests.relay.orbs_test",
-=======
-    "tests.relay.retry_test", "tests.relay.orbs_test", "tests.relay.hostile_test", "tests.relay.store_test",
->>>>>>> 4f74da960adaf365d814d1c603495738dd3bd37c
-    "tests.embed.idl_test",
+    "tests.relay.guard_test", "tests.relay.retry_test", "tests.relay.orbs_test", "tests.relay.hostile_test",
+    "tests.embed.idl_test", "tests.embed.packages_test", "tests.relay.store_test",
 ]
 
 
