@@ -17,13 +17,13 @@ from scripts import contracts
 ROOT = os.path.dirname(os.path.dirname(os.path.abspath(__file__)))
 # the most octets of a page, and of all that is written by hand together
 SIZES = {
-    "README.md": 9_000,
+    "README.md": 9_250,
     "docs/PROMISES.md": 26_500,
     "docs/READING.md": 10_000,
     "docs/ARCHITECTURE.md": 10_000,
     "docs/TESTING.md": 13_000,
 }
-BY_HAND = 241_500
+BY_HAND = 242_500
 PAGES_OF_CRATES = 25_000
 # the most lines of the list that a reader begins with, and of a source
 FIRST_LIST = 450

@@ -32,8 +32,8 @@ OF_PROGRAMS = [
 OF_LIBRARY = [
     "tests.embedding", "tests.embed.deeds_test", "tests.embed.first_programs", "tests.embed.python_test",
     "tests.embed.store_test", "tests.embed.durable_test", "tests.embed.rust_test",
-    "tests.relay.retry_test", "tests.relay.orbs_test", "tests.relay.hostile_test", "tests.relay.store_test",
-    "tests.embed.idl_test",
+    "tests.relay.guard_test", "tests.relay.retry_test", "tests.relay.orbs_test", "tests.relay.hostile_test",
+    "tests.embed.idl_test", "tests.embed.packages_test", "tests.relay.store_test",
 ]
 
 

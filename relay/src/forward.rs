@@ -186,3 +186,127 @@ impl Guarded {
         Ok(Body { octets: out.into_octets(), place: 0 })
     }
 }
+
+#[cfg(test)]
+mod tests {
+    use super::*;
+    use lemonrudder::{Assembler, Limits};
+
+    /// A Request of 1.2 in big order for `k`, to be called `f`, with a body, whose service contexts
+    /// are these octets behind their count (CORBA 3.3 Part 2, 9.4.2).
+    fn octets(count: u8, contexts: &[u8]) -> Vec<u8> {
+        let head = b"\0\0\0\x05\x03\0\0\0\0\0\0\0\0\0\0\x01k\0\0\0\0\0\0\x02f\0\0\0";
+        let mut content = [head.as_slice(), &[0, 0, 0, count], contexts].concat();
+        while (content.len() + 12) % 8 != 0 {
+            content.push(0);
+        }
+        content.extend(b"body");
+        let size = u32::try_from(content.len()).unwrap().to_be_bytes();
+        [b"GIOP\x01\x02\0\0".as_slice(), &size, &content].concat()
+    }
+
+    fn of<T>(octets: &[u8], read: impl Fn(&mut Message<'_>) -> T) -> T {
+        let mut assembler = Assembler::open(Limits::default()).unwrap();
+        assert_eq!(assembler.feed(octets), Ok(octets.len()));
+        let mut message = assembler.message().unwrap().unwrap();
+        read(&mut message)
+    }
+
+    /// FT_REQUEST of the client `A`, its request 7, which expires at 258.
+    const FT: &[u8] =
+        b"\0\0\0\x0d\0\0\0\x18\0\0\0\0\0\0\0\x02A\0\0\0\0\0\0\x07\0\0\0\0\0\0\x01\x02";
+    const SETS: &[u8] = b"\0\0\0\x01\0\0\0\x04sets";
+    const BI_DIR: &[u8] = b"\0\0\0\x05\0\0\0\x04ends";
+    const PADDED: &[u8] = b"\x4c\x52\0\0\0\0\0\x04\0\0\0\0";
+
+    #[test]
+    fn a_request_goes_on_without_what_is_of_its_connection() {
+        let sets = || vec![(CODE_SETS, b"sets".to_vec())];
+        let key = Key { client: b"A".to_vec(), number: 7 };
+        let ft = || Some(Ft { key: key.clone(), expiration: Moment(258) });
+        for (parts, contexts, ft) in [
+            (vec![], vec![], None),
+            (vec![FT], vec![], ft()),
+            (vec![SETS, FT, BI_DIR], sets(), ft()),
+            (vec![PADDED, SETS], sets(), None),
+        ] {
+            let count = u8::try_from(parts.len()).unwrap();
+            let request = of(&octets(count, &parts.concat()), request_of).unwrap();
+            assert_eq!((request.head.contexts, request.ft), (contexts, ft));
+            assert_eq!((request.head.key, request.head.operation), (b"k".to_vec(), b"f".to_vec()));
+            assert_eq!((request.body.octets, request.body.place % 8), (b"body".to_vec(), 0));
+        }
+    }
+
+    #[test]
+    fn what_can_not_be_performed_is_refused() {
+        let bad = Outcome::system("BAD_CONTEXT", 0, Completed::No);
+        let limit = Outcome::system("IMP_LIMIT", 0, Completed::No);
+        let short = b"\0\0\0\x0d\0\0\0\x01\0\0\0\0";
+        assert_eq!(of(&octets(1, short), request_of), Err(bad));
+        assert_eq!(of(&octets(33, &SETS.repeat(33)), request_of), Err(limit));
+        assert!(of(&octets(32, &SETS.repeat(32)), request_of).is_ok());
+    }
+
+    fn answer(status: u32, octets: &[u8], place: u64) -> Answer {
+        let body = Body { octets: octets.to_vec(), place };
+        Answer { status, order: Order::Little, contexts: Contexts::new(), body }
+    }
+
+    #[test]
+    fn an_outcome_means_the_same_at_a_multiple_of_8() {
+        let system = Status::SystemException.number();
+        for (status, size, place, is_one) in [
+            (0, 9, 24, true),
+            (0, 9, 28, false),
+            (0, 4, 28, true),
+            (0, 0, 25, true),
+            (0, 1, 25, false),
+            (system, 40, 28, true),
+        ] {
+            let outcome = answer(status, &vec![1; size], place).outcome();
+            let body = vec![1; size];
+            let wanted = is_one.then_some(Outcome { status, order: Order::Little, body });
+            assert_eq!(outcome, wanted, "{status} {size} {place}");
+        }
+    }
+
+    #[test]
+    fn a_reply_that_would_be_too_long_says_so() {
+        let octets = answer(0, &vec![0; compose::LONGEST], 0).reply(Version::V12, 9);
+        let is_it = |message: &mut Message<'_>| {
+            let limit = Outcome::system("IMP_LIMIT", 0, Completed::Yes);
+            message.request_id() == 9 && message.body() == limit.body
+        };
+        assert!(of(&octets, is_it));
+    }
+
+    /// A reference to `k` of the type `T`, in an order: one profile of IIOP 1.2 (9.7.2).
+    fn reference(host: &[u8; 4], port: u16) -> Vec<u8> {
+        let head = b"\0\0\0\x02T\0\0\0\0\0\0\x01\0\0\0\0\0\0\0\x1c\0\x01\x02\0\0\0\0\x05";
+        let key = b"\0\0\0\x01k\0\0\0\0\0\0\0";
+        [head.as_slice(), host, b"\0\0", &port.to_be_bytes(), key].concat()
+    }
+
+    #[test]
+    fn a_forward_leads_to_the_relay() {
+        let servers = vec![("back".to_owned(), 1), ("next".to_owned(), 2)];
+        let guarded = Guarded { own: ("here".to_owned(), 9), servers };
+        let forward = Status::LocationForward.number();
+        let reply = |status, octets| {
+            let body = Body { octets, place: 24 };
+            Reply { status, order: Order::Big, contexts: Contexts::new(), body }
+        };
+        for (host, port) in [(b"back", 1), (b"next", 2), (b"here", 9)] {
+            let told = guarded.told(reply(forward, reference(host, port))).unwrap();
+            assert_eq!((told.status, told.body.octets), (forward, reference(b"here", 9)));
+        }
+        for (host, port) in [(b"back", 2), (b"else", 1)] {
+            assert!(guarded.told(reply(forward, reference(host, port))).is_err());
+        }
+        assert!(guarded.told(reply(Status::NeedsAddressingMode.number(), vec![0, 0])).is_err());
+        assert!(guarded.told(reply(forward, vec![0, 0, 0])).is_err());
+        let told = guarded.told(reply(0, vec![1, 2])).unwrap();
+        assert_eq!((told.body.octets, told.body.place), (vec![1, 2], 24));
+    }
+}

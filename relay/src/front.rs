@@ -2,12 +2,15 @@
 
 use crate::compose;
 use crate::forward::{self, Answer, Request, CODE_SETS};
+use crate::frames::{Frames, Taken};
 use crate::metrics::metrics;
 use crate::points::point;
 use crate::settings;
 use crate::tls::Acceptor;
 use crate::wire::{self, locked, Stream};
-use lemonrudder::{write, Assembler, Limits, LocateStatus, Message, MessageType, Version, Wish};
+use lemonrudder::{
+    write, Assembler, Completed, Limits, LocateStatus, Message, MessageType, Version, Wish,
+};
 use std::collections::HashMap;
 use std::future::Future;
 use std::net::{IpAddr, SocketAddr};
@@ -144,7 +147,9 @@ pub async fn serve<R: Role>(
     for listener in listeners {
         accepting.spawn(accepts(front.clone(), listener, peers.clone()));
     }
+    wire::notify("READY=1");
     stop.await;
+    wire::notify("STOPPING=1");
     accepting.shutdown().await;
     _ = stopping.send(true);
     let ended = timeout(drain, async {
@@ -203,6 +208,7 @@ async fn attends<R: Role>(
     let mut talk = Talk {
         front: front.clone(),
         peer,
+        frames: Frames::new(limits.message.min(compose::LONGEST)),
         assembler,
         sets: None,
         cancels: Cancels::default(),
@@ -293,6 +299,7 @@ impl Why {
 struct Talk<R> {
     front: Arc<Front<R>>,
     peer: Arc<Peer>,
+    frames: Frames,
     assembler: Assembler,
     /// The code sets that were said on it.
     sets: Option<Vec<u8>>,
@@ -344,6 +351,19 @@ impl<R: Role> Talk<R> {
 
     /// Takes octets that came.
     async fn takes(&mut self, mut octets: &[u8]) -> Result<(), Why> {
+        while !octets.is_empty() {
+            let taken = self.frames.take(&mut octets);
+            if let Taken::Long { version, id, is_wished: true } = taken {
+                let long = Answer::system("IMP_LIMIT", 0, Completed::No);
+                _ = self.due.send(long.reply(version, id)).await;
+            }
+            self.hears(taken.octets()).await?;
+        }
+        Ok(())
+    }
+
+    /// Hears the messages that octets complete.
+    async fn hears(&mut self, mut octets: &[u8]) -> Result<(), Why> {
         while !octets.is_empty() {
             let fed = self.assembler.feed(octets).map_err(|_| Why::Fault)?;
             octets = &octets[fed..];

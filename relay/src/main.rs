@@ -5,6 +5,7 @@
 mod access;
 mod compose;
 mod forward;
+mod frames;
 mod front;
 mod guard;
 mod metrics;

@@ -35,6 +35,8 @@ pub struct Metrics {
     pub refused: IntCounterVec,
     /// Requests of which was told that nobody knows.
     pub maybe: IntCounter,
+    /// Replies for which nobody waits any more.
+    pub late: IntCounter,
     /// Connections of clients, and those that ended, by why.
     pub connections: IntGauge,
     pub ended: IntCounterVec,
@@ -100,6 +102,7 @@ impl Metrics {
             repeats: count(it, "repeats_total", "Requests answered by an outcome that was kept"),
             refused: counts(it, "refused_total", "Requests of which nothing is kept", "reason"),
             maybe: count(it, "maybe_total", "Requests told that nobody knows"),
+            late: count(it, "late_total", "Replies for which nobody waits any more"),
             connections: gauge(it, "connections", "Connections of clients"),
             ended: counts(it, "connections_ended_total", "Connections that ended", "why"),
             steps: counts(it, "store_steps_total", "Steps that were taken in the store", "step"),

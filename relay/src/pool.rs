@@ -4,14 +4,16 @@
 //! connections, since those belong to a connection (CORBA 3.3 Part 2, 7.10.2.5).
 
 use crate::compose::{self, Body, Contexts, Head};
-use crate::forward::{self, CODE_SETS};
+use crate::forward::{self, Answer, CODE_SETS};
+use crate::frames::{Frames, Taken};
+use crate::metrics::metrics;
 use crate::points::point;
 use crate::tls::Connector;
 use crate::wire::{self, locked, Stream};
-use lemonrudder::{write, Assembler, Limits, MessageType, Order, Version, Wish};
+use lemonrudder::{write, Assembler, Completed, Limits, MessageType, Order, Version, Wish};
 use std::collections::HashMap;
 use std::io;
-use std::sync::atomic::{AtomicU32, AtomicU64, Ordering};
+use std::sync::atomic::{AtomicU32, Ordering};
 use std::sync::{Arc, Mutex};
 use std::time::{Duration, Instant};
 use tokio::io::{AsyncReadExt, AsyncWriteExt, ReadHalf, WriteHalf};
@@ -50,6 +52,15 @@ pub struct Reply {
     pub order: Order,
     pub contexts: Contexts,
     pub body: Body,
+}
+
+impl Reply {
+    /// What stands for a reply that is too long.
+    fn long() -> Reply {
+        let Answer { status, order, contexts, body } =
+            Answer::system("IMP_LIMIT", 0, Completed::Yes);
+        Reply { status, order, contexts, body }
+    }
 }
 
 /// What came of a request; no reply, where none was wished.
@@ -110,7 +121,6 @@ pub struct Pool {
     /// For how long a connection may be without requests.
     idle: Duration,
     classes: Mutex<HashMap<Vec<u8>, Arc<Class>>>,
-    strays: AtomicU64,
 }
 
 /// A request that was handed to a connection.
@@ -129,14 +139,7 @@ impl Pool {
         most: usize,
         idle: Duration,
     ) -> Arc<Pool> {
-        let (classes, strays) = (Mutex::default(), AtomicU64::new(0));
-        Arc::new(Pool { places, tls, most: most.max(1), idle, classes, strays })
-    }
-
-    /// How many replies came for which nobody waits any more.
-    #[must_use]
-    pub fn strays(&self) -> u64 {
-        self.strays.load(Ordering::Relaxed)
+        Arc::new(Pool { places, tls, most: most.max(1), idle, classes: Mutex::default() })
     }
 
     /// Whether a connection is there, or can be.
@@ -281,6 +284,14 @@ impl Line {
         }
     }
 
+    /// Ends a request by its reply, unless nobody waits for that any more.
+    fn answers(&self, id: u32, reply: Reply) {
+        match locked(&self.waiting).requests.remove(&id) {
+            Some(ended) => _ = ended.send(Ok(Some(reply))),
+            None => metrics().late.inc(),
+        }
+    }
+
     /// Ends a connection on which nothing waits: whether nothing did.
     fn ends_idle(&self) -> bool {
         let mut waiting = locked(&self.waiting);
@@ -367,7 +378,7 @@ async fn reads(
     let Ok(mut assembler) = Assembler::open(limits) else {
         return ("memory is short", Loss::Unsent);
     };
-    let mut room = vec![0; BATCH];
+    let (mut frames, mut room) = (Frames::new(compose::LONGEST), vec![0; BATCH]);
     loop {
         let size = match timeout(pool.idle, half.read(&mut room)).await {
             Ok(Ok(0)) => return ("it was closed without a goodbye", Loss::Lost),
@@ -377,8 +388,15 @@ async fn reads(
             Err(_) if writer.is_finished() => return ("it takes nothing", Loss::Lost),
             Err(_) => continue,
         };
-        if let Err(end) = takes(pool, line, &mut assembler, &room[..size]) {
-            return end;
+        let mut octets = &room[..size];
+        while !octets.is_empty() {
+            let taken = frames.take(&mut octets);
+            if let Taken::Long { id, .. } = taken {
+                line.answers(id, Reply::long());
+            }
+            if let Err(end) = takes(line, &mut assembler, taken.octets()) {
+                return end;
+            }
         }
     }
 }
@@ -393,7 +411,6 @@ fn named(error: &io::Error) -> &'static str {
 
 /// Takes octets that came on a connection: it ends where it answers an error.
 fn takes(
-    pool: &Pool,
     line: &Line,
     assembler: &mut Assembler,
     mut octets: &[u8],
@@ -407,12 +424,8 @@ fn takes(
         let Some(mut message) = message else { continue };
         match message.message_type() {
             MessageType::Reply => {
-                let ended = locked(&line.waiting).requests.remove(&message.request_id());
-                let Some(ended) = ended else {
-                    pool.strays.fetch_add(1, Ordering::Relaxed);
-                    continue;
-                };
-                _ = ended.send(Ok(Some(forward::reply_of(&mut message))));
+                let (id, reply) = (message.request_id(), forward::reply_of(&mut message));
+                line.answers(id, reply);
             }
             MessageType::CloseConnection => return Err(("it said CloseConnection", Loss::Closed)),
             MessageType::MessageError => return Err(("it said MessageError", Loss::Lost)),

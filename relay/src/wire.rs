@@ -1,7 +1,11 @@
 //! Sockets: plain ones, and those of TLS, behind one type.
 
 use crate::tls::{Acceptor, Connector};
+use std::env;
 use std::io;
+use std::os::linux::net::SocketAddrExt;
+use std::os::unix::ffi::OsStrExt;
+use std::os::unix::net::{SocketAddr, UnixDatagram};
 use std::sync::{Mutex, MutexGuard, PoisonError};
 use std::time::Duration;
 use tokio::io::{AsyncRead, AsyncWrite};
@@ -9,6 +13,7 @@ use tokio::net::{lookup_host, TcpStream};
 use tokio::select;
 use tokio::signal::unix::{signal, SignalKind};
 use tokio::time::timeout;
+use tracing::warn;
 
 /// How long a connection that is opened, with its handshake, may take to be there.
 const PATIENCE: Duration = Duration::from_secs(5);
@@ -47,6 +52,20 @@ pub async fn ended() {
             _ = terminate.recv() => {}
             _ = interrupt.recv() => {}
         }
+    }
+}
+
+/// Tells the system's manager a state, as `READY=1`, where it asked for that (sd_notify).
+pub fn notify(state: &str) {
+    let Some(path) = env::var_os("NOTIFY_SOCKET") else { return };
+    let address = match path.as_bytes().strip_prefix(b"@") {
+        Some(name) => SocketAddr::from_abstract_name(name),
+        None => SocketAddr::from_pathname(&path),
+    };
+    let told =
+        UnixDatagram::unbound().and_then(|socket| socket.send_to_addr(state.as_bytes(), &address?));
+    if let Err(error) = told {
+        warn!(%error, "the system's manager is not told");
     }
 }
 

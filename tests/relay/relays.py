@@ -5,8 +5,6 @@ import asyncio
 import collections
 import contextlib
 import functools
-import glob
-import json
 import os
 import random
 import re
@@ -21,16 +19,11 @@ import time
 import unittest
 from collections.abc import Iterator
 
+from scripts import relay
 from tests import giop_peers
 from tests.programs import NEEDS, ROOT, library, tool
 
 HERE = os.path.join(ROOT, "tests", "relay")
-REGISTRY = "/usr/share/cargo/registry"
-# the crates that are not in the repository, by the folders that Debian packages give
-CRATES = {"tokio": "librust-tokio-dev", "clap": "librust-clap-dev", "rusqlite": "librust-rusqlite-dev",
-          "tokio-postgres": "librust-tokio-postgres-dev", "tokio-openssl": "librust-tokio-openssl-dev",
-          "prometheus": "librust-prometheus-dev", "toml": "librust-toml-dev", "serde": "librust-serde-dev",
-          "tracing-subscriber": "librust-tracing-subscriber-dev"}
 # how long anything may take on a busy machine
 SECONDS = 120
 # a long message passes omniORB as well
@@ -43,18 +36,13 @@ def program() -> str:
     if os.environ.get("LEMONRUDDER"):
         return os.path.abspath(os.environ["LEMONRUDDER"])
     tool("cargo")
-    lacking = [debian for crate, debian in CRATES.items() if not glob.glob(f"{REGISTRY}/{crate}-[0-9]*")]
+    lacking = relay.lacking()
     if lacking:
         raise unittest.SkipTest(NEEDS + ", ".join(lacking))
-    target = os.path.join(ROOT, "out", "relay")
-    words = ["cargo", "build", "--offline", "--config", 'source.crates-io.replace-with = "debian"',
-             "--config", f"source.debian.directory = {json.dumps(REGISTRY)}"]
-    env = {**os.environ, "CARGO_TARGET_DIR": target, "LEMONRUDDER_LIB_DIR": os.path.join(library(), "lib")}
-    ran = subprocess.run(words, cwd=os.path.join(ROOT, "relay"), env=env, stdin=subprocess.DEVNULL,
-                         stdout=subprocess.PIPE, stderr=subprocess.STDOUT, text=True, check=False)
-    if ran.returncode != 0:
-        raise AssertionError(ran.stdout)
-    return os.path.join(target, "debug", "lemonrudder")
+    made = relay.build(os.path.join(library(), "lib"), is_release=False)
+    if made is None:
+        raise AssertionError("lemonrudder was not built")
+    return made
 
 
 @functools.lru_cache(maxsize=None)

@@ -1,0 +1,51 @@
+"""Makes the program `lemonrudder` of relay/, over the library for C and the crates that Debian packages, without the
+network."""
+import glob
+import json
+import os
+import shutil
+import subprocess
+
+from scripts.crates import ROOT
+
+SOURCES = os.path.join(ROOT, "relay")
+TARGET = os.path.join(ROOT, "out", "relay")
+PROGRAM = "lemonrudder"
+# where Debian's packages put crates, and the packages of those that relay/Cargo.toml names
+REGISTRY = "/usr/share/cargo/registry"
+PACKAGES = {
+    name: f"librust-{name}-dev" for name in (
+        "clap", "futures-util", "openssl", "prometheus", "rusqlite", "serde", "tokio", "tokio-openssl",
+        "tokio-postgres", "toml", "tracing", "tracing-subscriber")
+}
+# the crates of crates.io are those of that folder
+OF_REGISTRY = ["--config", 'source.crates-io.replace-with = "debian"',
+               "--config", f"source.debian.directory = {json.dumps(REGISTRY)}"]
+
+
+def lacking():
+    """The packages of Debian that are missing on this machine."""
+    return [package for crate, package in PACKAGES.items() if not glob.glob(f"{REGISTRY}/{crate}-[0-9]*")]
+
+
+def cargo(lib, *words, target=TARGET, **options):
+    """Runs a command of cargo on the relay, over the library in a folder, and answers what `subprocess.run` does."""
+    env = {**os.environ, "LEMONRUDDER_LIB_DIR": lib, "CARGO_TARGET_DIR": target}
+    return subprocess.run(["cargo", *words, "--offline", *OF_REGISTRY], cwd=SOURCES, env=env,
+                          stdin=subprocess.DEVNULL, check=False, **options)
+
+
+def build(lib, target=TARGET, is_release=True, **options):
+    """Builds the program over the library in a folder, and answers its path, or None where that failed."""
+    words = ["--release"] if is_release else []
+    if cargo(lib, "build", "--quiet", *words, target=target, **options).returncode != 0:
+        return None
+    return os.path.join(target, "release" if is_release else "debug", PROGRAM)
+
+
+def install(program, prefix, destdir=""):
+    """Puts the program below a folder, which is itself below another one where that is given, and answers its path."""
+    path = os.path.join(destdir + os.path.abspath(prefix), "bin", PROGRAM)
+    os.makedirs(os.path.dirname(path), exist_ok=True)
+    shutil.copy2(program, path)
+    return path
