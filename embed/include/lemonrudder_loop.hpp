@@ -409,6 +409,14 @@ class Loop {
       types_[std::string(key.text())] = type;
     });
   }
+  /* .. and the ids of its bases behind it. */
+  Done object(Octets key, std::initializer_list<const char*> types) {
+    std::string ids;
+    for (const char* type : types) ids.append(type).push_back('\0');
+    return catalogue_.object(key).and_then([&] { return catalogue_.repository_ids(key, ids); }).transform([&] {
+      types_[std::string(key.text())] = *types.begin();
+    });
+  }
   /* An exception of the operation that is added next. */
   Done exception(Octets id, Types members) { return catalogue_.exception(id, members); }
   Done operation(Octets key, std::string_view name, Types arguments, Types results, Servant servant) {

@@ -2,14 +2,14 @@
 
     omniidl -p idl -blemonrudder -Wbpython FILE.idl
 
-In place of python: cpp, rust, c or types, several of them one after another; without any it is python.
+In place of python: cpp or types, several of them one after another; without any it is python.
 """
 import importlib
 import sys
 
 from . import model
 
-LANGUAGES = ("python", "cpp", "rust", "c", "types")
+LANGUAGES = ("python", "cpp", "types")
 
 usage_string = "\n".join(f"  -Wb{language}" for language in LANGUAGES)
 

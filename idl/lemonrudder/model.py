@@ -415,3 +415,45 @@ def unit_of(tree: object) -> Unit:
         raise Refused(reading.faults)
     modules = [scope for scope, is_here in reading.modules.items() if is_here]
     return Unit(tree.file(), reading.order, modules)
+
+
+CODES = {"float": "ULONG", "double": "ULONGLONG"}
+OBJECT = "STRING ULONG OCTETS STRUCT 2 SEQUENCE STRUCT 2"
+
+
+def codes(type: object) -> List[str]:
+    """A type as the library's types: the ends of the names LR_TYPE_.., and numbers."""
+    type = resolved(type)
+    if isinstance(type, Basic):
+        return [CODES.get(type.name, type.name.upper())]
+    if isinstance(type, String):
+        return ["STRING"]
+    if isinstance(type, Reference):
+        return OBJECT.split()
+    if isinstance(type, Sequence):
+        return ["OCTETS"] if resolved(type.member) == Basic("octet") else [*codes(type.member), "SEQUENCE"]
+    if isinstance(type, Array):
+        return [*codes(type.member) * type.size, "STRUCT", str(type.size)]
+    if isinstance(type, Enum):
+        return ["ENUM", str(len(type.names))]
+    return [*(code for _, member in type.members for code in codes(member)), "STRUCT", str(len(type.members))]
+
+
+def codes_of(types: List[Tuple[str, object]]) -> List[str]:
+    """The same of several types, in C."""
+    return [code if code.isdigit() else f"LR_TYPE_{code}" for _, type in types for code in codes(type)]
+
+
+def first_value(union: Union, case: Case) -> object:
+    """The discriminator by which a member of a union is set, as of a label: its first label, or the first value that is
+    none of another member."""
+    for label in case.labels:
+        if label is not None:
+            return label
+    taken = {label for one in union.cases for label in one.labels}
+    switch = resolved(union.switch)
+    if isinstance(switch, Enum):
+        return next((*switch.scope[:-1], name) for name in switch.names if (*switch.scope[:-1], name) not in taken)
+    if switch == Basic("char"):
+        return next(chr(number) for number in range(256) if chr(number) not in taken)
+    return next(number for number in range(1 << 16) if number not in taken)

@@ -23,6 +23,8 @@ import typing as _typing
 
 from lemonrudder import idl as _idl
 '''
+# what each exception of Python has
+EXCEPTIONS = ("args", "add_note", "with_traceback")
 IGNORED = "  # type: ignore[no-any-return]"
 PACKAGE = '"""Made by omniidl -blemonrudder -Wbpython. Not to be changed by hand."""\n'
 
@@ -38,7 +40,7 @@ def flat(scope: Tuple[str, ...]) -> str:
 
 
 def member(name: str) -> str:
-    return identifier(name, "self", "mro", "args")
+    return identifier(name, "self", *EXCEPTIONS)
 
 
 class Names:

@@ -33,7 +33,9 @@ from lemonrudder import idl  # noqa: E402
 # how many seconds a compiler or a program may take on a busy machine
 SECONDS = 600
 TYPES, VALUES = 24, 12
-LANGUAGES = ("python", "types")
+# .. and of those that go through C++, which compiles slowly
+CPP_TYPES = 4
+LANGUAGES = ("python", "cpp", "types")
 ORB = ["-lomniORB4", "-lomnithread"]
 EMBED = os.path.join(ROOT, "tests", "embed")
 EXAMPLES = os.path.join(ROOT, "examples")
@@ -61,6 +63,22 @@ def omniidl(name: str, text: str, *languages: str, folder: str = FOLDER.name) ->
             file.write(text)
     words = [tool("omniidl"), "-p", os.path.join(ROOT, "idl"), "-blemonrudder", *(f"-Wb{one}" for one in languages)]
     return subprocess.run([*words, f"-C{folder}", path], capture_output=True, text=True, timeout=SECONDS, check=False)
+
+
+def backend(idl_file: str, language: str) -> None:
+    """Has the backend write what it makes of a file in a language into the folder."""
+    words = [tool("omniidl"), "-p", os.path.join(ROOT, "idl"), "-blemonrudder", f"-Wb{language}"]
+    run(*words, f"-C{FOLDER.name}", idl_file)
+
+
+def compiled(compiler: str, name: str, *sources: str) -> str:
+    """A program in C or C++ over the library, compiled in the folder, without a warning."""
+    program = os.path.join(FOLDER.name, name)
+    standard = "-std=c++17" if "++" in compiler else "-std=c11"
+    archive = os.path.join(library(), "lib", "liblemonrudder.a")
+    run(tool(compiler), standard, "-Wall", "-Wextra", "-Werror", f"-I{FOLDER.name}",
+        f"-I{os.path.join(ROOT, 'embed', 'include')}", *sources, archive, "-o", program)
+    return program
 
 
 @functools.lru_cache(maxsize=None)
@@ -157,6 +175,59 @@ int main(int argc, char** argv) {{
   orb->destroy();
 }}
 """
+CPP = """
+// The same by what is made of {interface} in C++.
+#include <csignal>
+#include <cstdio>
+#include "{base}_idl.hpp"
+
+namespace lr = lemonrudder;
+static std::string own;
+
+template <class Call, class Outcome>
+static lr::Done passed(Call& call, const Outcome& outcome) {{
+  return outcome ? call.answer(*outcome) : call.system(lr::SystemException::unknown, lr::Completed::maybe);
+}}
+
+#define ASKING(NAME) lr::idl::Asking<{interface}::_ops::NAME>& call
+#define OF(W, X) \\
+  lr::Done echo_##W(ASKING(echo_##W), const W& one) override {{ return call.answer(one); }} \\
+  lr::Done turn_##W(ASKING(turn_##W), const W& one) override {{ return call.answer(one, one); }} \\
+  lr::Done fail_##W(ASKING(fail_##W), const W& one) override {{ return call.raise(X{{one}}); }} \\
+  lr::Done echo_by_##W(ASKING(echo_by_##W), const std::string& reference, const W& one) override {{ \\
+    auto caller = *lr::idl::Caller::of(reference); \\
+    return passed(call, {interface}(caller).echo_##W(one)); \\
+  }} \\
+  lr::Done turn_by_##W(ASKING(turn_by_##W), const std::string& reference, const W& one) override {{ \\
+    auto caller = *lr::idl::Caller::of(reference); \\
+    const auto outcome = {interface}(caller).turn_##W(one); \\
+    if (!outcome) return call.system(lr::SystemException::unknown, lr::Completed::maybe); \\
+    return call.answer(std::get<0>(*outcome), std::get<1>(*outcome)); \\
+  }} \\
+  lr::Done fail_by_##W(ASKING(fail_by_##W), const std::string& reference, const W& one) override {{ \\
+    auto caller = *lr::idl::Caller::of(reference); \\
+    const auto outcome = {interface}(caller).fail_##W(one); \\
+    if (const X* const raised = outcome.raised<X>()) return call.answer(raised->held); \\
+    return call.system(lr::SystemException::unknown, lr::Completed::maybe); \\
+  }}
+
+class Servant : public POA_{interface} {{
+ public:
+{lines}
+  lr::Done self(ASKING(self)) override {{ return call.answer(*lr::idl::ObjectReference::parse(own)); }}
+  lr::Done other(ASKING(other), const lr::idl::ObjectReference& one) override {{ return call.answer(one); }}
+}};
+
+int main() {{
+  Servant servant;
+  lr::Loop loop;
+  if (!servant._offer(loop, "echo") || !loop.open() || loop.listen("127.0.0.1", 0) || loop.stop_at(SIGTERM)) return 1;
+  own = *loop.reference("echo");
+  std::printf("%s\\n", own.c_str());
+  std::fflush(stdout);
+  return loop.serve() ? 1 : 0;
+}}
+"""
 OPERATIONS = """
   {w} echo_{w}(in {w} one);
   void turn_{w}(inout {w} one, out {w} two);
@@ -170,10 +241,10 @@ OPERATIONS = """
 class Echoes:
     """An interface that echoes values of random types, in Python and over omniORB."""
 
-    def __init__(self, seed: int) -> None:
-        self.kinds, lines = idl_types.random_types(seed, TYPES)
-        self.base = f"echoes{seed}"
-        self.interface = f"Echo{seed}"
+    def __init__(self, seed: int, count: int) -> None:
+        self.kinds, lines = idl_types.random_types(seed, count)
+        self.base = f"echoes{seed}_{count}"
+        self.interface = f"Echo{seed}_{count}"
         operations = []
         for kind in self.kinds:
             w, x = f"W{kind.idl}", f"X{kind.idl}"
@@ -182,11 +253,21 @@ class Echoes:
         operations += ["  Object self();", "  Object other(in Object one);"]
         self.text = "\n".join([*lines, f"interface {self.interface} {{", *operations, "};", ""])
         self.module = made(self.base, self.text)
-        macros = "\n".join(f"  OF(W{kind.idl}, X{kind.idl})" for kind in self.kinds)
-        source = os.path.join(FOLDER.name, f"{self.base}_server.cc")
-        with open(source, "w", encoding="ascii") as file:
-            file.write(ECHO.format(interface=self.interface, base=self.base, lines=macros))
-        self.program = omniorb_program(self.base, os.path.join(FOLDER.name, f"{self.base}.idl"), source)
+        self.idl_file = os.path.join(FOLDER.name, f"{self.base}.idl")
+        self.program = omniorb_program(self.base, self.idl_file, self.source("_server.cc", ECHO))
+
+    def source(self, end: str, text: str) -> str:
+        """A source of a program, whose file has the name of the IDL with an end."""
+        path = os.path.join(FOLDER.name, self.base + end)
+        lines = "\n".join(f"  OF(W{kind.idl}, X{kind.idl})" for kind in self.kinds)
+        with open(path, "w", encoding="ascii") as file:
+            file.write(text.format(interface=self.interface, base=self.base, lines=lines))
+        return path
+
+    def cpp(self) -> list[str]:
+        """The words that run the echoes in C++."""
+        backend(self.idl_file, "cpp")
+        return [compiled("g++", self.base + "_cpp", self.source("_echo.cpp", CPP))]
 
     def values(self, dice: random.Random) -> Iterator[tuple[str, Any, type]]:
         """Values of each type: its name, and the exception of it."""
@@ -221,14 +302,14 @@ class Echoes:
         return type("EchoServant", (getattr(self.module, f"_POA_{self.interface}"),), methods)()
 
 
-async def exchanged(test: unittest.TestCase, echoes: Echoes, seed: int, reference: str) -> None:
-    """Each value comes back from omniORB, and through it from a servant in Python."""
+async def exchanged(test: unittest.TestCase, echoes: Echoes, seed: int, reference: str, behind: str = "") -> None:
+    """Each value comes back from an object, and through it from another one, or from a servant in Python."""
     dice = random.Random(seed)
     stub = getattr(echoes.module, echoes.interface)
     async with lr.Server() as server, stub._of(reference) as there:
         idl.add(server, "echo", echoes.servant())
         await server.listen()
-        here = str(server.reference("echo"))
+        here = behind or str(server.reference("echo"))
         for name, value, exception in echoes.values(dice):
             with test.subTest(name):
                 test.assertEqual(await getattr(there, f"echo_{name}")(value), value)
@@ -252,9 +333,18 @@ class RandomTypes(unittest.TestCase):
     @base.each_seed(1, 1)
     def test_exchange(self, seed: int) -> None:
         """What goes comes back, in either direction, and by exceptions."""
-        echoes = Echoes(seed)
+        echoes = Echoes(seed, TYPES)
         with serving(echoes.program, "-ORBendPoint", "giop:tcp:127.0.0.1:") as reference:
             asyncio.run(exchanged(self, echoes, seed, reference))
+
+    @base.each_seed(5, 1)
+    def test_cpp(self, seed: int) -> None:
+        """So do a servant and a stub in C++, before and behind omniORB."""
+        echoes = Echoes(seed, CPP_TYPES)
+        with serving(echoes.program, "-ORBendPoint", "giop:tcp:127.0.0.1:") as reference, \
+                serving(*echoes.cpp()) as other:
+            asyncio.run(exchanged(self, echoes, seed, other, reference))
+            asyncio.run(exchanged(self, echoes, seed, reference, other))
 
 
 # ---- names and values in Python ----
@@ -445,6 +535,15 @@ class Python(unittest.TestCase):
         self.assertRaises(TypeError, names.Mark)
         self.assertRaises(TypeError, poa.Desk)
 
+    def test_names_of_python(self) -> None:
+        """Names that Python's enums and exceptions have themselves."""
+        odd = made("odd", "enum Odd { name, value, mro, items };\nstruct Own { Odd name; long value; long fields; };\n"
+                   "exception Raised { long with_traceback; long add_note; };")
+        self.assertEqual([one._n for one in odd.Odd], ["name", "value", "_mro", "items"])
+        own = odd.Own(odd.Odd.value, 1, 2)
+        self.assertEqual((own.name, list(own)), (odd.Odd.value, [odd.Odd.value, 1, 2]))
+        self.assertEqual(str(odd.Raised(1, 2)), "Raised(_with_traceback=1, _add_note=2)")
+
     def test_packages(self) -> None:
         """Two files may have parts of one module; a package of another origin stays as it is."""
         first = made("parts1", "module Parts { struct One { long x; }; };")
@@ -493,8 +592,11 @@ class Python(unittest.TestCase):
                 servant.answer, servant.heard = None, []
                 await stub.tell("hi")
                 await stub.show(names.Mark(text="ho"))
-                await stub._get_size()
-                self.assertEqual(servant.heard, ["hi", names.Mark(text="ho")])
+                while len(servant.heard) < 2:
+                    await stub._get_size()
+                # (one is performed by a task)
+                self.assertIn("hi", servant.heard)
+                self.assertIn(names.Mark(text="ho"), servant.heard)
 
         asyncio.run(calls())
 
@@ -602,6 +704,12 @@ def bank_python() -> list[str]:
     return ["env", f"PYTHONPATH={path}", sys.executable, os.path.join(EXAMPLES, "idl", "bank.py")]
 
 
+def bank_cpp(compiler: str = "g++") -> list[str]:
+    """The bank in C++."""
+    backend(os.path.join(EXAMPLES, "bank.idl"), "cpp")
+    return [compiled(compiler, f"bank_{compiler}", os.path.join(EXAMPLES, "idl", "bank.cpp"))]
+
+
 def dialogue(server: list[str], client: list[str]) -> list[str]:
     """What a client prints that makes some deposits at a server, each in a process of its own."""
     rows = [("alice", "5"), ("alice", "-7"), ("bob", str((1 << 63) - 1)), ("alice", "-5")]
@@ -610,10 +718,22 @@ def dialogue(server: list[str], client: list[str]) -> list[str]:
 
 
 DEPOSITS = ["5", "overdrawn: 5", str((1 << 63) - 1), "0"]
-BANKS = {"Python": bank_python}
+BANKS = {"Python": bank_python, "C++": bank_cpp, "C++ by clang": functools.partial(bank_cpp, "clang++")}
 
 
-@needs("g++", "omniidl")
+@needs("g++", "clang++", "omniidl")
+class Cpp(unittest.TestCase):
+    """What is made of IDL in C++."""
+
+    @base.each(lambda: [(name, name) for name in ("g++", "clang++")])
+    def test_values(self, compiler: str) -> None:
+        """Each kind of declaration compiles without a warning; a value that is none of its type is an error."""
+        made("shapes", SHAPES)
+        backend(os.path.join(FOLDER.name, "shapes.idl"), "cpp")
+        self.assertEqual(run(compiled(compiler, f"shapes_{compiler}", os.path.join(EMBED, "idl_values.cpp"))), "")
+
+
+@needs("g++", "clang++", "omniidl")
 class Bank(unittest.TestCase):
     """The bank of examples/bank.idl, in each language, and over omniORB."""
 
@@ -664,7 +784,8 @@ REFUSED = {
     "two at once": ("interface I {\n  void f(in any x);\n  void g(in wchar x);\n};",
                     [f":2: any: {LEFT_OUT}", f":3: wchar: {LEFT_OUT}"]),
     "what is refused in a module": ("module M {\n  struct S {\n    any x;\n  };\n  interface I {\n"
-                                    "    void f(in S one);\n  };\n};", [f":3: any: {LEFT_OUT}", f":6: M::S: any: {LEFT_OUT}"]),
+                                    "    void f(in S one);\n  };\n};",
+                                    [f":3: any: {LEFT_OUT}", f":6: M::S: any: {LEFT_OUT}"]),
     "a base that is refused": ("interface I {\n  void f(in any x);\n};\ninterface J : I {};",
                                [f":2: any: {LEFT_OUT}", f":4: I: any: {LEFT_OUT}"]),
 }
@@ -715,7 +836,8 @@ class Refused(unittest.TestCase):
 # ---- the table of types ----
 
 TYPES_OF = {
-    "interface I { long f(in string s, inout octet o, out boolean b); oneway void g(in short s); };": """interface IDL:I:1.0
+    "interface I { long f(in string s, inout octet o, out boolean b);\n  oneway void g(in short s); };":
+    """interface IDL:I:1.0
 operation f
 in s string
 in o octet
@@ -726,7 +848,7 @@ operation g
 oneway
 in s short
 """,
-    "module M { typedef sequence<string<3>, 5> S; typedef S A[2][4]; exception E { A one; Object other; };\n"
+    "module M { typedef sequence<string<3>, 5> S; typedef S A[2][4];\nexception E { A one; Object other; };\n"
     "interface I { attribute S some; void f() raises (E); }; interface J : I {}; };": """exception IDL:M/E:1.0
 member one string:3 sequence:5 array:4 array:2
 member other object

@@ -91,8 +91,10 @@ class Orbs(unittest.TestCase):
             life.begin()
             answers = calling.answers()
             made.settle()
-            told = judge(answers, made.server.performed(), maybe)
-            self.assertEqual(sum(count for words, count in told.items() if words.endswith("MAYBE")), maybe, told)
+            # (a connection that came while its end was under way may be lost too)
+            most = maybe + (role == "retry")
+            told = judge(answers, made.server.performed(), most)
+            self.assertGreaterEqual(sum(told[words] for words in told if words.endswith("MAYBE")), maybe, told)
 
     def test_a_server_that_is_killed(self):
         """Who waits for it is told MAYBE; it is begun again, and others are served."""

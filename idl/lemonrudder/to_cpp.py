@@ -1,0 +1,324 @@
+"""C++17: FILE_idl.hpp, and lemonrudder_idl.hpp, on which it stands.
+
+Names are near the OMG's mappings: a module is a namespace, the interface M::I is the stub M::I with the types of its
+scope, and its servant POA_M::I; a name that is a keyword begins by _cxx_.
+"""
+import os
+import re
+from typing import Dict, List, Tuple
+
+from . import model
+
+KEYWORDS = set("""alignas alignof and and_eq asm auto bitand bitor bool break case catch char char16_t char32_t char8_t
+class co_await co_return co_yield compl concept const const_cast consteval constexpr constinit continue decltype default
+delete do double dynamic_cast else enum explicit export extern false float for friend goto if inline int long mutable
+namespace new noexcept not not_eq nullptr operator or or_eq private protected public register reinterpret_cast requires
+return short signed sizeof static static_assert static_cast struct switch template this thread_local throw true try
+typedef typeid typename union unsigned using virtual void volatile wchar_t while xor xor_eq""".split())
+VALUES = {"boolean": "bool", "char": "char", "octet": "std::uint8_t", "short": "std::int16_t",
+          "ushort": "std::uint16_t", "long": "std::int32_t", "ulong": "std::uint32_t", "longlong": "std::int64_t",
+          "ulonglong": "std::uint64_t", "float": "float", "double": "double"}
+CODECS = {"boolean": "Boolean", "char": "Char", "octet": "Octet", "short": "Short", "ushort": "UShort", "long": "Long",
+          "ulong": "ULong", "longlong": "LongLong", "ulonglong": "ULongLong", "float": "Float", "double": "Double"}
+LR, IDL = "::lemonrudder::", "::lemonrudder::idl::"
+HEAD = """/* Made of {file} by omniidl -blemonrudder -Wbcpp. Not to be changed by hand. */
+#ifndef {guard}
+#define {guard}
+
+#include "lemonrudder_idl.hpp"
+"""
+
+
+def identifier(name: str) -> str:
+    return f"_cxx_{name}" if name in KEYWORDS else name
+
+
+def path(scope: Tuple[str, ...]) -> str:
+    """The name of a declaration, from the outermost on."""
+    return "::" + "::".join(map(identifier, scope))
+
+
+def value(type: object) -> str:
+    """The type of values."""
+    if isinstance(type, model.Declared):
+        return path(type.scope)
+    if isinstance(type, model.Basic):
+        return VALUES[type.name]
+    if isinstance(type, model.String):
+        return "std::string"
+    if isinstance(type, model.Reference):
+        return f"{IDL}ObjectReference"
+    if isinstance(type, model.Sequence):
+        return f"std::vector<{value(type.member)}>"
+    return f"std::array<{value(type.member)}, {type.size}>"
+
+
+def codec(type: object) -> str:
+    """What reads and writes values of a type."""
+    type = model.resolved(type)
+    if isinstance(type, model.Enum):
+        return f"{IDL}Enumeration<{path(type.scope)}, {len(type.names)}>"
+    if isinstance(type, model.Declared):
+        return f"{IDL}Own<{path(type.scope)}>"
+    if isinstance(type, model.Basic):
+        return f"{IDL}{CODECS[type.name]}"
+    if isinstance(type, model.String):
+        return f"{IDL}String<{type.bound or ''}>"
+    if isinstance(type, model.Reference):
+        return f"{IDL}Own<{IDL}ObjectReference>"
+    if isinstance(type, model.Sequence):
+        return f"{IDL}Sequence<{codec(type.member)}{f', {type.bound}' if type.bound else ''}>"
+    return f"{IDL}Array<{codec(type.member)}, {type.size}>"
+
+
+def parameter(type: object) -> str:
+    """How a value is handed in."""
+    plain = isinstance(model.resolved(type), (model.Basic, model.Enum))
+    return value(type) if plain else f"const {value(type)}&"
+
+
+def literal(one: object, type: object) -> str:
+    """A value of a constant or a label."""
+    type = model.resolved(type)
+    if isinstance(one, tuple):
+        return f"{path(type.scope)}::{identifier(one[-1])}"
+    if isinstance(type, model.String):
+        return '"' + "".join(char if 32 <= ord(char) < 127 and char not in '"\\?' else f"\\{ord(char):03o}"
+                             for char in one) + '"'
+    if type == model.Basic("char"):
+        return f"static_cast<char>({ord(one)})"
+    if type == model.Basic("boolean"):
+        return "true" if one else "false"
+    if isinstance(one, float):
+        return repr(one) if abs(one) < float("inf") else f"{'-' if one < 0 else ''}HUGE_VAL"
+    if type == model.Basic("longlong"):
+        return "INT64_MIN" if one == -1 << 63 else f"INT64_C({one})"
+    return f"UINT64_C({one})" if type == model.Basic("ulonglong") else f"static_cast<{VALUES[type.name]}>({one})"
+
+
+def indented(lines: List[str]) -> List[str]:
+    return [f"  {line}" if line else line for line in lines]
+
+
+def inner_of(one: model.Declared, unit: model.Unit) -> List[str]:
+    """What stands in the scope of a declaration."""
+    lines: List[str] = []
+    for other in unit.declarations:
+        if other.scope[:-1] == one.scope:
+            lines += body_of(other, unit, True)
+    return lines
+
+
+def members_of(one: model.Declared) -> List[str]:
+    """The members of a struct or an exception, and how these are read and written."""
+    name, fields = identifier(one.name), [(identifier(member), type) for member, type in one.members]
+    lines = [f"{value(type)} {member}{{}};" for member, type in fields]
+    if fields and isinstance(one, model.Struct):
+        same = " && ".join(f"one.{member} == two.{member}" for member, _ in fields)
+        lines += ["", f"friend bool operator==(const {name}& one, const {name}& two) {{", f"  return {same};", "}"]
+    for verb, head in (("read", f"{LR}Reader& in, {name}& value"),
+                       ("write", f"{LR}GrowingWriter& out, const {name}& value")):
+        if not fields:
+            head = re.sub(r" \w+(,|$)", r"\1", head)
+        lines += ["", f"static {LR}Done _{verb}({head}) {{"]
+        for index, (member, type) in enumerate(fields):
+            call = f"{codec(type)}::{verb}({'in' if verb == 'read' else 'out'}, value.{member})"
+            lines.append(f"  {LR}Done done = {call};" if index == 0 else f"  if (done) done = {call};")
+        lines += ["  return done;" if fields else "  return {};", "}"]
+    return lines
+
+
+def struct(one: model.Declared, unit: model.Unit) -> List[str]:
+    lines = inner_of(one, unit)
+    if isinstance(one, model.Exceptional):
+        lines.append(f'static constexpr const char* _id = "{one.id}";')
+    return [f"struct {identifier(one.name)} {{", *indented(lines + members_of(one)), "};", ""]
+
+
+def enum(one: model.Enum) -> List[str]:
+    names = ", ".join(map(identifier, one.names))
+    return [f"enum class {identifier(one.name)} : std::uint32_t {{ {names} }};", ""]
+
+
+def index_of(one: model.Union) -> List[str]:
+    """Which member a discriminator selects, counted from 1; 0: none."""
+    lines, default = [], 0
+    for number, case in enumerate(one.cases, 1):
+        labels = [label for label in case.labels if label is not None]
+        default = number if None in case.labels else default
+        if labels and None not in case.labels:
+            test = " || ".join(f"label == {literal(label, one.switch)}" for label in labels)
+            lines.append(f"  if ({test}) return {number};")
+    return [f"static std::size_t _index([[maybe_unused]] {value(one.switch)} label) {{", *lines, f"  return {default};",
+            "}"]
+
+
+def union(one: model.Union, unit: model.Unit) -> List[str]:
+    name, switch = identifier(one.name), value(one.switch)
+    first = literal(model.first_value(one, one.cases[0]), one.switch)
+    lines = [*inner_of(one, unit), f"{name}() {{ _d({first}); }}", "",
+             "/* The discriminator; a new one comes with a new value of its member, if it selects another one. */",
+             f"{switch} _d() const noexcept {{ return _label; }}", f"void _d({switch} label) {{",
+             "  _label = label;", "  if (_value.index() == _index(label)) return;", "  switch (_index(label)) {"]
+    lines += [f"    case {number}: _value.emplace<{number}>(); break;" for number in range(1, len(one.cases) + 1)]
+    lines += ["    default: _value.emplace<0>();", "  }", "}",
+              "/* A member, if it is the one that the discriminator selects; and what sets both. */"]
+    for number, case in enumerate(one.cases, 1):
+        member, held = identifier(case.name), value(case.type)
+        lines += [f"const {held}* {member}() const noexcept {{ return std::get_if<{number}>(&_value); }}",
+                  f"void {member}({held} value) {{",
+                  f"  _label = {literal(model.first_value(one, case), one.switch)};",
+                  f"  _value.emplace<{number}>(std::move(value));", "}"]
+    lines += ["", f"friend bool operator==(const {name}& one, const {name}& two) {{",
+              "  return one._label == two._label && one._value == two._value;", "}", "",
+              f"static {LR}Done _read({LR}Reader& in, {name}& value) {{", f"  {switch} label{{}};",
+              f"  {LR}Done done = {codec(one.switch)}::read(in, label);", "  if (!done) return done;",
+              "  value._d(label);", "  switch (value._value.index()) {"]
+    lines += [f"    case {number}: done = {codec(case.type)}::read(in, *std::get_if<{number}>(&value._value)); break;"
+              for number, case in enumerate(one.cases, 1)]
+    lines += ["    default: break;", "  }", "  return done;", "}", "",
+              f"static {LR}Done _write({LR}GrowingWriter& out, const {name}& value) {{",
+              f"  const {LR}Done done = {codec(one.switch)}::write(out, value._label);", "  if (!done) return done;",
+              "  switch (value._value.index()) {"]
+    lines += [f"    case {number}: return {codec(case.type)}::write(out, *std::get_if<{number}>(&value._value));"
+              for number, case in enumerate(one.cases, 1)]
+    types = ", ".join(["std::monostate", *(value(case.type) for case in one.cases)])
+    lines += ["    default: return done;", "  }", "}"]
+    hidden = [*index_of(one), "", f"{switch} _label{{}};", f"std::variant<{types}> _value;"]
+    return [f"class {name} {{", " public:", *indented(lines), "", " private:", *indented(hidden), "};", ""]
+
+
+def const(one: model.Const, is_inner: bool) -> List[str]:
+    type = "char*" if isinstance(model.resolved(one.type), model.String) else value(one.type)
+    const_ = "const " if type == "char*" else ""
+    return [f"{'static' if is_inner else 'inline'} constexpr {const_}{type} {identifier(one.name)} = "
+            f"{literal(one.value, one.type)};", ""]
+
+
+def list_of(types: List[Tuple[str, object]]) -> str:
+    return ", ".join(codec(type) for _, type in types)
+
+
+def traits(operation: model.Operation) -> List[str]:
+    """What the templates know of an operation."""
+    raises = ", ".join(path(one.scope) for one in operation.raises)
+    results = ", ".join(value(type) for _, type in operation.results)
+    codes = model.codes_of(operation.arguments) if not model.is_raw(operation) else []
+    held = f"{IDL}ResultOf<{results}>"
+    outcome = f"{IDL}Outcome<{held}::type{f', {raises}' if raises else ''}>"
+    return [f"struct {identifier(operation.name)} {{",
+            f'  static constexpr const char* _name = "{operation.name}";',
+            f"  static constexpr bool _is_raw = {str(model.is_raw(operation)).lower()};",
+            f"  static constexpr bool _is_oneway = {str(operation.is_oneway).lower()};",
+            f"  using _arguments = {IDL}Codecs<{list_of(operation.arguments)}>;",
+            f"  using _results = {IDL}Codecs<{list_of(operation.results)}>;",
+            f"  using _raises = {IDL}Raises<{raises}>;",
+            f"  using _outcome = {outcome};",
+            f"  static constexpr std::array<std::uint8_t, {len(codes)}> _types{{{', '.join(codes)}}};",
+            f"  static _outcome _result(_results::Values values) {{ return {{{held}::of(std::move(values))}}; }}", "};"]
+
+
+def method_of(operation: model.Operation) -> str:
+    """The method for an operation: of an attribute its name."""
+    return identifier(operation.attribute or operation.name)
+
+
+def parameters(operation: model.Operation) -> List[str]:
+    return [f"{parameter(type)} {identifier(name)}" for name, type in operation.arguments]
+
+
+def stub(one: model.Interface, unit: model.Unit) -> List[str]:
+    name = identifier(one.name)
+    lines = [f'static constexpr const char* _id = "{one.id}";', *inner_of(one, unit), "struct _ops {"]
+    for operation in one.operations:
+        lines += indented(traits(operation))
+    bases = "".join(f", {path(base.scope)}(caller)" for base in one.bases)
+    keyed = "".join(f", {path(base.scope)}(caller, key)" for base in one.bases)
+    lines += ["};", "", f"explicit {name}({IDL}Caller& caller) : {IDL}Stub(caller){bases} {{}}",
+              f"{name}({IDL}Caller& caller, {LR}Octets key) : {IDL}Stub(caller, key){keyed} {{}}"]
+    for operation in one.operations:
+        ops, names = f"_ops::{identifier(operation.name)}", [identifier(inner) for inner, _ in operation.arguments]
+        lines += [f"{ops}::_outcome {method_of(operation)}({', '.join(parameters(operation))}) const {{",
+                  f"  return _call<{ops}>({', '.join(names)});", "}"]
+    heads = ", ".join(f"public virtual {path(base.scope)}" for base in one.bases) or f"public virtual {IDL}Stub"
+    return [f"class {name} : {heads} {{", " public:", *indented(lines), "};", ""]
+
+
+def poa(scope: Tuple[str, ...]) -> str:
+    first, *rest = scope
+    return "::" + "::".join([f"POA_{first}", *map(identifier, rest)])
+
+
+def servant(one: model.Interface) -> List[str]:
+    """The servant of an interface, and how it is put on offer."""
+    name = poa(one.scope).rpartition("::")[2]
+    lines: List[str] = []
+    for operation in one.operations:
+        asking = f"{IDL}Asking<{path(one.scope)}::_ops::{identifier(operation.name)}>& call"
+        lines.append(f"virtual {LR}Done {method_of(operation)}({', '.join([asking, *parameters(operation)])}) = 0;")
+    ids = ", ".join(f"{path(each.scope)}::_id" for each in (one, *one.all_bases))
+    lines += ["", "/* Puts it on offer under a key, before the loop is opened. */",
+              f"{LR}Done _offer({LR}Loop& loop, {LR}Octets key) {{", f"  {LR}Done done = loop.object(key, {{{ids}}});"]
+    for interface in (*reversed(one.all_bases), one):
+        for operation in interface.operations:
+            lines += indented(offered(interface, operation))
+    heads = ", ".join(f"public virtual {poa(base.scope)}" for base in one.bases) or f"public virtual {IDL}Servant"
+    return [f"class {name} : {heads} {{", " public:", *indented(lines + ["  return done;", "}"]), "};", ""]
+
+
+def offered(interface: model.Interface, operation: model.Operation) -> List[str]:
+    """The lines that put an operation on offer."""
+    lines = []
+    if not model.is_raw(operation):
+        for raised in operation.raises:
+            codes = ", ".join(model.codes_of(raised.members))
+            lines.append(f"if (done) done = loop.exception({path(raised.scope)}::_id, {{{codes}}});")
+    types = "" if model.is_raw(operation) else "".join(
+        f", {{{', '.join(model.codes_of(types))}}}" for types in (operation.arguments, operation.results))
+    call = "raw_operation" if model.is_raw(operation) else "operation"
+    ops = f"{path(interface.scope)}::_ops::{identifier(operation.name)}"
+    return [*lines, "if (done)", f'  done = loop.{call}(key, "{operation.name}"{types},',
+            f"      {IDL}performer<{ops}>([this](auto& call, const auto&... one) {{",
+            f"        return this->{method_of(operation)}(call, one...);", "      }));"]
+
+
+def body_of(one: model.Declared, unit: model.Unit, is_inner: bool) -> List[str]:
+    """The lines of a declaration, but for a servant."""
+    if isinstance(one, model.Const):
+        return const(one, is_inner)
+    if isinstance(one, model.Alias):
+        return [f"using {identifier(one.name)} = {value(one.type)};", ""]
+    if isinstance(one, model.Enum):
+        return enum(one)
+    if isinstance(one, model.Union):
+        return union(one, unit)
+    if isinstance(one, model.Interface):
+        return stub(one, unit)
+    return struct(one, unit)
+
+
+def within(scope: Tuple[str, ...], prefix: str, lines: List[str]) -> List[str]:
+    """Lines in the namespaces of a scope."""
+    if not scope:
+        return lines
+    names = [prefix + scope[0] if prefix else identifier(scope[0]), *map(identifier, scope[1:])]
+    opened = "::".join(names)
+    return [f"namespace {opened} {{", "", *lines, f"}}  // namespace {opened}", ""]
+
+
+def files_of(unit: model.Unit) -> Dict[str, str]:
+    base = re.sub(r"\W", "_", unit.base)
+    guard = f"{base.upper()}_IDL_HPP"
+    lines = [HEAD.format(file=os.path.basename(unit.file), guard=guard)]
+    others = dict.fromkeys(model.base_of(one.file) for one in unit.declarations if not one.is_here)
+    lines += [*(f'#include "{re.sub(chr(92) + "W", "_", other)}_idl.hpp"' for other in others), ""]
+    holders = {one.scope for one in unit.declarations if isinstance(one, (model.Interface, model.Struct, model.Union))}
+    holders |= {one.scope for one in unit.declarations if isinstance(one, model.Exceptional)}
+    for one in unit.here:
+        if one.scope[:-1] in holders:
+            continue
+        lines += within(one.scope[:-1], "", body_of(one, unit, False))
+        if isinstance(one, model.Interface):
+            lines += within(one.scope[:-1], "POA_", servant(one))
+    with open(os.path.join(os.path.dirname(__file__), "lemonrudder_idl.hpp"), encoding="ascii") as file:
+        return {f"{base}_idl.hpp": "\n".join([*lines, f"#endif  // {guard}", ""]), "lemonrudder_idl.hpp": file.read()}

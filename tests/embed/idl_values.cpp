@@ -1,0 +1,66 @@
+// What is made in C++ of the shapes of tests/embed/idl_test.py: values that are none of their types, and unions.
+#include <cstdio>
+
+#include "shapes_idl.hpp"
+
+namespace lr = lemonrudder;
+
+static int failures = 0;
+
+#define WANT(WHAT) \
+  if (!(WHAT)) std::printf("line %d: %s\n", __LINE__, #WHAT), failures++
+
+// What comes of reading octets.
+template <class T>
+static lr::Error read(const std::vector<std::uint8_t>& octets) {
+  lr::Reader in{lr::Octets(octets)};
+  T value;
+  return T::_read(in, value).error();
+}
+
+// Nothing listens at this port: an answer that comes at once says that nothing was to be sent.
+static void arguments() {
+  auto caller = *lr::idl::Caller::open("127.0.0.1", 1);
+  const Shapes::Desk desk(caller, "desk");
+  Shapes::Held held;
+  held.some = {"a", "b", "c", "d"};
+  WANT(desk.keep(held).error() == LR_E_RANGE);
+  held.some = {"abcde"};
+  WANT(desk.keep(held).error() == LR_E_RANGE);
+  held.some = {"abcd"};
+  held.its_colour = static_cast<Shapes::Colour>(3);
+  WANT(desk.keep(held).error() == LR_E_RANGE);
+  WANT(desk.tell(std::string("a\0b", 3)).error() == LR_E_TEXT);
+  caller.patience(std::chrono::milliseconds(50));
+  WANT(desk.tell("a").error() == LR_E_EXPIRED);
+}
+
+static void octets() {
+  WANT(read<Shapes::Mark>({0, 0, 0, 0, 0, 1, 0, 2}) == LR_OK);
+  WANT(read<Shapes::Mark>({0, 0, 0, 0, 0, 1}) == LR_E_SHORT);
+  WANT(read<Shapes::Mark>({0, 0, 0, 2}) == LR_OK);
+  WANT(read<Shapes::Mark>({0, 0, 0, 3}) == LR_E_VALUE);
+  WANT(read<Shapes::Held>({0, 0, 0, 4, 0, 0, 0, 1, 0, 0, 0, 0}) == LR_E_VALUE);
+  WANT(read<Shapes::Held>({0, 0, 0, 1, 0, 0, 0, 6, 'a', 'b', 'c', 'd', 'e', 0}) == LR_E_VALUE);
+  WANT(read<Shapes::Held>({255, 255, 255, 255}) == LR_E_SHORT);
+}
+
+static void unions() {
+  Shapes::Mark mark;
+  WANT(mark._d() == Shapes::Colour::red && mark.at() != nullptr && mark.text() == nullptr);
+  mark.text("t");
+  WANT(mark._d() == Shapes::Colour::green && *mark.text() == "t" && mark.at() == nullptr);
+  mark._d(Shapes::Colour::None_);
+  WANT(mark.text() == nullptr && mark.at() == nullptr);
+  Shapes::Any_ any;
+  any.from(1.5);
+  WANT(!any._d() && *any.from() == 1.5 && any.id() == nullptr);
+}
+
+int main() {
+  static_assert(Shapes::FEW == 3);
+  arguments();
+  octets();
+  unions();
+  return failures;
+}
