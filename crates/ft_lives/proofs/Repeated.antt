@@ -307,9 +307,9 @@ module _ (lives : ℕ → Life) where
   -- what an owner may tell is told rightly
   pub told-rightly : (held : Type 0) (steps front rest : List Step) (n : ℕ) (w : Awaited) (key : RequestKey) (expiration : ℕ) (outcome : Performed) → IsKept steps → steps ≡ front ++ rest
       → (WasHeld front key outcome → held) → MayTell steps front n w key expiration outcome → IsToldRightly held steps front n w key expiration outcome
-  told-rightly held steps front rest n w key expiration outcome kept is as (inl was) = inl (as was)
-  told-rightly held steps front rest n w key expiration outcome kept is as (inr (inl maybe)) = inr (inl maybe)
-  told-rightly held steps front rest n w key expiration outcome kept is as (inr (inr no)) = inr (inr (no.0, no.1, no.2, may-be-free steps front rest n w no.0 key expiration kept is no.3))
+  told-rightly held steps front rest n w key expiration outcome kept is brings (inl was) = inl (brings was)
+  told-rightly held steps front rest n w key expiration outcome kept is brings (inr (inl maybe)) = inr (inl maybe)
+  told-rightly held steps front rest n w key expiration outcome kept is brings (inr (inr refuses)) = inr (inr (refuses.0, refuses.1, refuses.2, may-be-free steps front rest n w refuses.0 key expiration kept is refuses.3))
 
   -- .. and so it is to a repeat that waits with it
   pub waiter-told : HearingGrows meaning_in → (held : Type 0) (steps front between rest : List Step) (n : ℕ) (d : Deed) (a : Arrival Wanted) (i j number : ℕ) (key : RequestKey) (expiration : ℕ) (outcome : Performed) (told : List Told) → AreLives lives steps → IsKept steps → IsOwned lives steps
@@ -317,7 +317,7 @@ module _ (lives : ℕ → Life) where
       → steps ≡ front ++ Did n d ∷ between ++ Did n (SettledUnkept j number outcome told) ∷ rest → Says (lives n).settings (ledger_of lives n front) d a (Ok i) → a.field ≡ Present key expiration
       → i < length (ledger_of lives n front).calls → (ledger_of lives n front).held i ≡ parked number → list_any (settles number) (deeds_of n (Did n d ∷ between)) ≡ false
       → (w : Awaited) × (late : ℕ) × (w.field ≡ Present key late) × IsToldRightly held steps (front ++ Did n d ∷ between) n w key late outcome
-  waiter-told grow held steps front between rest n d a i j number key expiration outcome told runs kept owned as is said has less now other =
+  waiter-told grow held steps front between rest n d a i j number key expiration outcome told runs kept owned brings is said has less now other =
       from ((ledger_of lives n (front ++ Did n d ∷ between)).there number) refl (waits-there lives grow steps front between rest n d (SettledUnkept j number outcome told) a i number key expiration runs owned is said has less now other)
     where
       from : (o : Option Awaited) → (ledger_of lives n (front ++ Did n d ∷ between)).there number ≡ o → HasKey o key
@@ -327,7 +327,7 @@ module _ (lives : ℕ → Life) where
         w,
         has_it.0,
         has_it.1,
-        told-rightly held steps (front ++ Did n d ∷ between) (Did n (SettledUnkept j number outcome told) ∷ rest) n w key has_it.0 outcome kept is as
+        told-rightly held steps (front ++ Did n d ∷ between) (Did n (SettledUnkept j number outcome told) ∷ rest) n w key has_it.0 outcome kept is brings
             (owned.settled_unkept (front ++ Did n d ∷ between) rest n j number outcome told w key has_it.0 is at has_it.1),
       )
 
@@ -373,4 +373,4 @@ module _ (lives : ℕ → Life) where
       from : IsToldRightly (WasHeld front key (not_now name minor)) steps front n w key expiration (not_now name minor) → WasHeld front key (not_now name minor) ⊎ IsOverOrFree steps front n w key expiration name
       from (inl was) = inl was
       from (inr (inl maybe)) = absurd (let same = no-is-no name maybe.0 minor maybe.1 Maybe maybe.2 in let bad = same.1 in cc)
-      from (inr (inr no)) = inr (subst (λ (m : SystemName). IsOverOrFree steps front n w key expiration m) (no-is-no name no.0 minor no.1 No no.2).0 no.3)
+      from (inr (inr refuses)) = inr (subst (λ (m : SystemName). IsOverOrFree steps front n w key expiration m) (no-is-no name refuses.0 minor refuses.1 No refuses.2).0 refuses.3)
