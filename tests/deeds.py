@@ -1,7 +1,7 @@
 """Plays random lists of an owner's deeds with the program `deeds_player`, and compares with a model.
 
 A list is requests for the counter, one or more in a piece, and what the owner does of each, by a seed; what is parked
-is settled or withdrawn later, and meanwhile the counter is hidden, or taken away all the same, and offered again, and
+is settled, told unkept or withdrawn later, and meanwhile the counter is hidden, or taken away all the same, and offered again, and
 the ids of clients are bounded. What is parked and lost its object is settled with a system exception. The lines of a
 list are those of crates/deeds_player/src/lines.rt. All that is printed must be what the model says
 (tests/engine_model.py): for each deed its connection, how it ended, and what was written; at a moment that is told,
@@ -87,6 +87,8 @@ class Owned(Engine):
         self.manners, self.is_hidden, self.longest, self.client = maker.manners, False, None, b""
         # how many of one connection may be parked, and on which each came
         self.of_one, self.origins, self.counts = maker.of_one, {}, Counter()
+        # what the owner keeps of what it told, by the keys; the keys of what is parked; and whether it told the last one
+        self.stored, self.fields, self.is_told = {}, {}, False
         counts = (places.parked, maker.of_one, places.joined, terms.capacity, terms.share)
         self.given = [f"engine {' '.join(map(str, counts))}"]
 
@@ -143,6 +145,18 @@ class Owned(Engine):
         self.counts[self.decision(asked)] += 1
         return super().came_of(connection, asked)
 
+    def keeps(self, came):
+        return super().keeps(came) and not self.is_told
+
+    def has(self, field, call):
+        """What the owner has for a request: by its key what it kept of it, if anything."""
+        return self.stored[field] if field in self.stored else self.apply(call)
+
+    def store(self, field, outcome):
+        """The owner keeps an outcome by a key."""
+        if field is not None:
+            self.stored[field] = outcome
+
     def parked_of(self, connection):
         """How many of the parked requests came on a connection."""
         return sum(self.origins[number] == connection for number in self.parked)
@@ -156,7 +170,7 @@ class Owned(Engine):
     def ask(self, connection, asked):
         """Asks for a request: what comes of it, by what the owner does."""
         number, self.asks = self.asks, self.asks + 1
-        self.asking = True
+        self.asking, self.is_told = True, False
         self.end_piece(connection)
         manner = self.manners[asked.request_id]
         if manner == "park":
@@ -182,7 +196,7 @@ class Owned(Engine):
         """Parks the request that waits."""
         self.deed("park")
         self.counts["parked"] += 1
-        self.parked[number], self.origins[number] = Parked(asked.call), connection
+        self.parked[number], self.origins[number], self.fields[number] = Parked(asked.call), connection, asked.field
         self.wait(connection, asked, self.parked[number])
         return self.parked[number]
 
@@ -193,17 +207,21 @@ class Owned(Engine):
         raise GivenUp
 
     def answer_asked(self, manner, connection, asked):
-        """Answers the request that waits, or declines it."""
-        outcome = self.apply(asked.call) if manner == "answer" else NOT_NOW
-        line = f"answer {outcome_in(outcome)}" if manner == "answer" else "decline"
-        self.counts["answered" if manner == "answer" else "declined"] += 1
+        """Answers the request that waits, tells it an outcome that the engine does not keep, or declines it."""
+        is_declined, self.is_told = manner == "decline", manner == "tell"
+        outcome = NOT_NOW if is_declined else self.has(asked.field, asked.call)
+        if self.is_told:
+            self.store(asked.field, outcome)
+        line = manner if is_declined else f"{manner} {outcome_in(outcome)}"
+        self.counts["declined" if is_declined else "answered"] += 1
         self.deed(line, f"{connection} done{self.reply_words(connection, asked, outcome)}")
         return outcome
 
     def look(self, connection, asked):
         """Gives lines that do nothing while a request waits, and an outcome that is not its."""
         ends = [f"close {connection}", f"lost {connection}"]
-        late = [line for number in list(self.parked)[:1] for line in (f"settle {number} 0", f"withdraw {number}")]
+        late = [line for number in list(self.parked)[:1]
+                for line in (f"settle {number} 0", f"tell_parked {number} 0", f"withdraw {number}")]
         for line in ("hide", "drop", "bound 0", "tick 1000000", "opened 1000", *ends, *late):
             self.while_asking(line)
         if asked.call.operation == b"get":
@@ -211,7 +229,7 @@ class Owned(Engine):
 
     def while_asking(self, line):
         """Gives a line that does nothing while a request waits."""
-        if line.split()[0] in ("opened", "close", "lost", "settle", "withdraw"):
+        if line.split()[0] in ("opened", "close", "lost", "settle", "tell_parked", "withdraw"):
             self.refused(line, "asking")
         else:
             self.give(line)
@@ -284,32 +302,39 @@ class Owned(Engine):
         return self.deed(f"close {number}", f"{number} done{said}")
 
     def do_late(self, verb, pick):
-        """What is parked is settled or withdrawn, or what is not parked."""
+        """What is parked is settled, told unkept or withdrawn, or what is not parked."""
         some = sorted(self.parked)
         number = some[pick % len(some)] if some and pick % 8 else self.asks + pick
         parked = self.parked.get(number)
         if parked is None:
-            return self.refused(f"{verb} {number}{' 0' if verb == 'settle' else ''}", "not parked")
-        outcome = self.outcome_of(number, parked) if verb == "settle" else NOT_NOW
-        self.counts["settled" if verb == "settle" else "withdrawn"] += 1
+            return self.refused(f"{verb} {number}{'' if verb == 'withdraw' else ' 0'}", "not parked")
+        outcome = NOT_NOW if verb == "withdraw" else self.outcome_of(verb, number, parked)
+        self.counts["withdrawn" if verb == "withdraw" else "settled"] += 1
         kept = [(key, end, came) for key, end, came in self.performed if verb == "settle" or came is not parked]
         self.performed = [(key, end, outcome if came is parked else came) for key, end, came in kept]
         del self.parked[number]
         told = self.told([(c, self.reply_words(c, asked, outcome)) for c, asked in self.going(parked)])
-        return self.deed(f"{verb} {number}{' ' + outcome_in(outcome) if verb == 'settle' else ''}", *told)
+        return self.deed(f"{verb} {number}{'' if verb == 'withdraw' else ' ' + outcome_in(outcome)}", *told)
 
     def told(self, replies):
         """What is printed of what those are told who waited, each on its connection."""
         return [f"{connection} done{words}" for connection, words in replies]
 
-    def outcome_of(self, number, parked):
+    def outcome_of(self, verb, number, parked):
         """The outcome of what is parked: a system exception where its object is gone, and nothing else is taken."""
         if parked.call.operation == b"get":
-            self.refused(f"settle {number} overflow", "not parked")
-        if not self.is_hidden:
-            return self.apply(parked.call)
-        self.refused(f"settle {number} 0", "not parked")
-        return GONE
+            self.refuses(verb, f"{number} overflow")
+        if self.is_hidden:
+            self.refuses(verb, f"{number} 0")
+            return GONE
+        outcome = self.has(self.fields[number], parked.call)
+        if verb == "tell_parked":
+            self.store(self.fields[number], outcome)
+        return outcome
+
+    def refuses(self, verb, words):
+        """Gives an outcome that is none of the operation's."""
+        self.refused(f"{verb} {words}", "not parked")
 
     def do_drop(self):
         self.give("drop")
@@ -371,7 +396,7 @@ class Maker:
             if asked.field:
                 self.keyed.append(asked)
         self.ids += 1
-        self.manners[self.ids] = dice.choice(["answer"] * 8 + ["park"] * 10 + ["decline"] * 3 + ["give_up", "look"])
+        self.manners[self.ids] = dice.choice(["answer"] * 8 + ["park"] * 10 + ["decline"] * 3 + ["tell"] * 4 + ["give_up", "look"])
         self.now += dice.choice([0, 0, 1, 3])
         connection = dice.choice([self.last] * 5 + [dice.randint(1, self.last + 1)])
         return Asking(connection, self.now, asked._replace(request_id=self.ids))
@@ -395,7 +420,7 @@ class Maker:
         if chance < 0.62:
             return dice.choice([("counts",), ("tick", self.now + dice.choice([0, 1, 10]))])
         if chance < 0.76:
-            return "late", dice.choice(["settle", "settle", "withdraw"]), dice.randrange(64)
+            return "late", dice.choice(["settle", "settle", "tell_parked", "withdraw"]), dice.randrange(64)
         if chance < 0.84:
             return ("drop",) if dice.random() < 0.2 else ("offer", dice.random() < 0.4)
         if chance < 0.89:

@@ -2,9 +2,9 @@
 
 A script is events on connections, and what the owner does, as `giop play --engine` takes it. The model looks back over
 all requests that came (`Server` of tests/ends_model.py): each distinct admissible request is asked for once, in the
-order in which they came first, and again only where it was given up or declined. A request that is parked acts when it
+order in which they came first, and again only where it was given up, declined or told unkept. A request that is parked acts when it
 is answered. A repeat of one waits with it, and is told with it; where more than so many wait on connections that go on
-it is told TRANSIENT. Of a request that is declined nothing stays. The model knows of each message what it says and where
+it is told TRANSIENT. Of a request that is declined, or told an outcome unkept, nothing stays. The model knows of each message what it says and where
 it ends, and reads no octets.
 """
 from collections import namedtuple
@@ -178,6 +178,10 @@ class Engine(Server):
         self.stops, self.is_repeated = self.stops + 1, True
         return refused("TRANSIENT", 0, MAYBE) if is_full else parked
 
+    def keeps(self, came):
+        """Whether what a request was answered stays."""
+        return came != NOT_NOW
+
     def keyed(self, connection, asked):
         """What a request with a key gets: an outcome, or what is parked."""
         key, call = asked.field, asked.call
@@ -190,7 +194,7 @@ class Engine(Server):
         if refusal:
             return refusal
         came = self.ask(connection, asked)
-        if came != NOT_NOW:
+        if self.keeps(came):
             self.performed.append((key, call.expiration, came))
         return came
 

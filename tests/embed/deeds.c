@@ -402,9 +402,29 @@ static int64_t hand_in(uint64_t ticket, const char *outcome) {
   return lr_server_answer(&server, ticket, results.order, results.all, results.size);
 }
 
-static struct ended do_answer(const char *outcome) {
+/* Tells an outcome, of which nothing is kept, in the order in which it goes out. */
+static int64_t hand_in_unkept(uint64_t ticket, const char *outcome) {
+  struct octets body = {.size = 0, .order = LR_ORDER_BIG};
+  uint32_t status = LR_REPLY_NO_EXCEPTION;
+  if (strcmp(outcome, "overflow") == 0) {
+    status = LR_REPLY_USER_EXCEPTION;
+    put_text(&body, OVERFLOW);
+  } else if (strcmp(outcome, "unknown") == 0) {
+    status = LR_REPLY_SYSTEM_EXCEPTION;
+    put_text(&body, "IDL:omg.org/CORBA/UNKNOWN:1.0");
+    put_number(&body, 0, 4);
+    put_number(&body, LR_COMPLETED_MAYBE, 4);
+  } else {
+    uint64_t total = (uint64_t)signed_number(outcome);
+    body.order = total % 2 == 0 ? LR_ORDER_BIG : LR_ORDER_LITTLE;
+    put_number(&body, total, 8);
+  }
+  return lr_server_answer_unkept(&server, ticket, status, body.order, body.all, body.size);
+}
+
+static struct ended do_answer(const char *outcome, bool is_kept) {
   lr_request asked = waiting();
-  int64_t answer = hand_in(asked.ticket, outcome);
+  int64_t answer = is_kept ? hand_in(asked.ticket, outcome) : hand_in_unkept(asked.ticket, outcome);
   if (asked.ticket == 0 && answer == LR_E_TICKET) return refused_by("nothing asked");
   if (answer == LR_E_OUTCOME) return refused_by("not fit");
   if (answer != LR_OK) return refused(answer);
@@ -442,14 +462,19 @@ static struct ended do_give_up(bool is_goodbye) {
   return done;
 }
 
-/* A parked request is answered, or refused where there is no outcome. What waits is none: that is not tried. It is one
+static int64_t refuse(uint64_t ticket, const char *outcome) {
+  (void)outcome;
+  return lr_server_refuse(&server, ticket, LR_EX_TRANSIENT, 0);
+}
+
+/* A parked request is answered, kept or not, or refused. What waits is none: that is not tried. It is one
  * refusal where nothing is parked under a number, and where the outcome is not fit: the error must be the one of these
  * that it is. */
-static struct ended do_late(uint64_t asked, const char *outcome) {
+static struct ended do_late(uint64_t asked, int64_t (*tell)(uint64_t, const char *), const char *outcome) {
   uint64_t ticket = asked < ask_count ? tickets[asked] : 0;
   if (ticket != 0 && waiting().ticket == ticket) return refused_by("asking");
   bool is_parked = lr_server_part(&server, ticket, LR_PART_OPERATION, NULL, 0) > 0;
-  int64_t answer = outcome == NULL ? lr_server_refuse(&server, ticket, LR_EX_TRANSIENT, 0) : hand_in(ticket, outcome);
+  int64_t answer = tell(ticket, outcome);
   if (answer == (is_parked ? LR_E_OUTCOME : LR_E_TICKET)) return refused_by("not parked");
   if (answer != LR_OK) return refused(answer);
   print_told();
@@ -462,15 +487,17 @@ static struct ended do_deed(char *words) {
   if (strcmp(name, "opened") == 0) return do_opened(number(words));
   if (strcmp(name, "close") == 0) return do_close(number(words));
   if (strcmp(name, "lost") == 0) return do_lost(number(words));
-  if (strcmp(name, "answer") == 0) return do_answer(words);
+  if (strcmp(name, "answer") == 0) return do_answer(words, true);
+  if (strcmp(name, "tell") == 0) return do_answer(words, false);
   if (strcmp(name, "decline") == 0) return do_decline();
   if (strcmp(name, "park") == 0) return do_park();
   if (strcmp(name, "give_up") == 0) return do_give_up(false);
   if (strcmp(name, "goodbye") == 0) return do_give_up(true);
   uint64_t asked = number(parted(&words, ' '));
-  if (strcmp(name, "settle") == 0) return do_late(asked, words);
+  if (strcmp(name, "settle") == 0) return do_late(asked, hand_in, words);
+  if (strcmp(name, "tell_parked") == 0) return do_late(asked, hand_in_unkept, words);
   if (strcmp(name, "withdraw") != 0) stop(name);
-  return do_late(asked, NULL);
+  return do_late(asked, refuse, words);
 }
 
 /* Plays the deeds since the last play, up to one that is not done or leaves octets. */

@@ -7,6 +7,7 @@ has no such thing, or another:
 - An error says that there is no place to park a request, and not which places are taken.
 - The greatest length of a client's id is set before the first connection is opened: afterwards `bound` is too late,
   also while a request waits. Rows in which it changes later are left out.
+- What is told unkept is handed in as octets, which fit each operation: no outcome is refused.
 - Goodbye is not refused on a connection where somebody waits, but said behind the replies: rows in which it is refused
   are left out.
 - What became of each request (`heard`) is not told, but counted; why a connection ended (`ending`) is not told.
@@ -172,6 +173,10 @@ class Embedded(deeds.Owned):
         self.deed("goodbye", f"{connection} lost {self.handled} {self.handled}{said}")
         self.counts["given_up"] += 1
         raise GivenUp
+
+    def refuses(self, verb: str, words: str) -> None:
+        if verb != "tell_parked":
+            super().refuses(verb, words)
 
     def is_late(self, line: str) -> bool:
         """Gives a line that sets a limit, and says whether a connection was opened."""

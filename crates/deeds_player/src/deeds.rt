@@ -34,6 +34,12 @@ fn settling(alloc: Global, words: &str) -> Result<Deed, Stop> {
     Ok(Deed::Settle(number(asked)?, outcome_in(alloc, outcome)?))
 }
 
+/// The deed of `tell_parked NUMBER OUTCOME`.
+fn telling(alloc: Global, words: &str) -> Result<Deed, Stop> {
+    let (asked, outcome) = parted(words)?;
+    Ok(Deed::TellParked(number(asked)?, outcome_in(alloc, outcome)?))
+}
+
 /// The event of `asks C NOW REQUEST,..`, or of `piece C NOW HEX`.
 fn piece_in(alloc: Global, name: &str, words: &str) -> Result<Event, Stop> {
     let (connection, words) = parted(words)?;
@@ -68,6 +74,8 @@ pub(crate) fn deed_in(alloc: Global, line: &str) -> Result<Deed, Stop> {
     match name {
         "answer" => Ok(Deed::Answer(outcome_in(alloc, words)?)),
         "settle" => settling(alloc, words),
+        "tell" => Ok(Deed::Tell(outcome_in(alloc, words)?)),
+        "tell_parked" => telling(alloc, words),
         "withdraw" => Ok(Deed::Withdraw(number(words)?, SystemName::Transient, 0)),
         _ => Ok(Deed::Event(event_in(alloc, name, words)?)),
     }

@@ -10,6 +10,7 @@
 //! - `asks C NOW REQUEST,..`: requests as `requests` says, with a comma between them
 //! - `answer OUTCOME`, `park`, `give_up`, `settle NUMBER OUTCOME`: an outcome is a total, `overflow`, or `unknown`, the
 //!   system exception with the minor code 0 and COMPLETED_MAYBE
+//! - `tell OUTCOME`, `tell_parked NUMBER OUTCOME`: the same, and nothing is kept
 //! - `decline`, `withdraw NUMBER`: with TRANSIENT and the minor code 0
 //!
 //! `hide` takes the counter away from what is on offer and `show` offers it again, unless a request of it is parked; `drop`

@@ -8,7 +8,7 @@ use Rattle.ft_log.specs.Kept.{KeptOutcome, kept_for, unexpired}
 use Rattle.ft_log.specs.Performed.{Performed}
 use Rattle.ft_log.specs.Holding.{Holding}
 use Rattle.ft_log.specs.declared.system_exception.SystemName.TheVariants.{BadContext}
-use Rattle.ft_orb.specs.Deeds.{Answered, Declined, Deed, GivenUp, Happened, IsDeed, Joined, Ledger, Parked, Part, Runs, Settled, Stopped, Stops, Withdrawn, after_deed, after_deeds, opening, part_of}
+use Rattle.ft_orb.specs.Deeds.{Answered, AnsweredUnkept, Deed, GivenUp, Happened, IsDeed, Joined, Ledger, Parked, Part, Runs, Settled, SettledUnkept, Stopped, Stops, after_deed, after_deeds, opening, part_of}
 use Rattle.ft_orb.specs.Engines.{Awaited}
 use Rattle.ft_orb.specs.ExactlyOnce.{Arrival, Field, Present}
 use Rattle.ft_orb.specs.History.{completed}
@@ -110,8 +110,8 @@ found (Answered a outcome written note ∷ ds) w there = found-later (Answered a
 found (Parked a own ∷ ds) w there = found-later (Parked a own) ds w (found ds w there)
 found (GivenUp a handled ∷ ds) w there = found-later (GivenUp a handled) ds w (found ds w there)
 found (Settled i n outcome told ∷ ds) w there = found-later (Settled i n outcome told) ds w (found ds w there)
-found (Declined a name minor written ∷ ds) w there = found-later (Declined a name minor written) ds w (found ds w there)
-found (Withdrawn i n name minor told ∷ ds) w there = found-later (Withdrawn i n name minor told) ds w (found ds w there)
+found (AnsweredUnkept a outcome written ∷ ds) w there = found-later (AnsweredUnkept a outcome written) ds w (found ds w there)
+found (SettledUnkept i n outcome told ∷ ds) w there = found-later (SettledUnkept i n outcome told) ds w (found ds w there)
 
 module _ (s : Settings) where
   -- a deed of a run is one of what was known before it

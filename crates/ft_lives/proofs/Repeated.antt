@@ -11,12 +11,14 @@ use Rattle.ft_log.specs.Holding.{Holding, known, parked}
 use Rattle.ft_log.specs.Keys.{RequestKey, same_key}
 use Rattle.ft_log.specs.Kept.{KeptOutcome, kept_for, unexpired}
 use Rattle.ft_log.specs.Performed.{Performed}
+use Rattle.ft_log.specs.declared.system_exception.Completion.{Completion}
+use Rattle.ft_log.specs.declared.system_exception.Completion.TheVariants.{Maybe, No}
 use Rattle.ft_log.specs.declared.system_exception.SystemName.{SystemName}
 use Rattle.ft_log.specs.declared.system_exception.SystemName.TheVariants.{BadContext}
 use Rattle.ft_orb.specs.declared.events.Note.{Note}
 use Rattle.ft_orb.specs.declared.parked.Waiter.{Waiter}
 use Rattle.ft_orb.specs.Declined.{asks_by, room_by}
-use Rattle.ft_orb.specs.Deeds.{Answered, Asking, Declined, Deed, GivenUp, Happened, IsDeed, Joined, Ledger, Parked, Part, Runs, Settled, Stopped, Told, Withdrawn, after_deed, after_deeds, opening, settles}
+use Rattle.ft_orb.specs.Deeds.{Answered, AnsweredUnkept, Asking, Deed, GivenUp, Happened, IsDeed, Joined, Ledger, Parked, Part, Runs, Settled, SettledUnkept, Stopped, Told, after_deed, after_deeds, opening, settles}
 use Rattle.ft_orb.specs.Engines.{Awaited}
 use Rattle.ft_orb.specs.ExactlyOnce.{Arrival, Field, Present}
 use Rattle.ft_orb.specs.History.{Event}
@@ -26,8 +28,8 @@ use Rattle.ft_orb.specs.Requests.{Call, Wanted}
 use Rattle.ft_orb.specs.Table.{Table, forgotten, keyed_step, step_by_field, table_after, table_step}
 use Rattle.ft_orb.specs.Withdrawing.{number_rules}
 use Rattle.ft_lives.specs.Lives.{AreLives, Did, IsKept, Life, Step, Stored, deeds_of, ledger_of, stored, stored_after}
-use Rattle.ft_lives.specs.Owned.{IsOwned, MayDecline, NeverCommits, WasFree, WasHeld, WasOver}
-use Rattle.ft_lives.specs.Replies.{DeclinedAreFree, IsFree, RefusedAreFree, RefusesNoneHeld, RepeatsAreHeld, Says, ToldAreHeld, declined_in}
+use Rattle.ft_lives.specs.Owned.{IsException, IsOwned, MayDecline, MayTell, WasHeld, WasOver}
+use Rattle.ft_lives.specs.Replies.{DeclinedAreFree, IsFree, IsOverOrFree, IsToldRightly, RefusedAreFree, RefusesNoneHeld, RepeatsAreHeld, Says, ToldAreHeld, UnkeptAreRight, WaitersAreToldRightly, unkept_in}
 use Rattle.ft_lives.specs.Stores.{Ask, Change, Committed, Other, Purged, Row, Store, changed, empty_store, held_for}
 use Rattle.ft_lives.proofs.Kept.{deeds-append, stored-append}
 use Rattle.ft_lives.proofs.Lists.{same_is, same_key-self}
@@ -90,8 +92,8 @@ module _ (lives : ℕ → Life) where
     ruled-one early late (Settled i m outcome told) at = λ w key expiration there has.
         let x = Did n (Settled i m outcome told) in
         subst (λ (l : List Step). WasHeld l key outcome) (sym at) (held-later early (x ∷ late) key outcome (owned.settled early (late ++ rest) n i m outcome told w key expiration (until early late x at) there has))
-    ruled-one early late (Declined a name minor written) at = tt
-    ruled-one early late (Withdrawn i m name minor told) at = tt
+    ruled-one early late (AnsweredUnkept a outcome written) at = tt
+    ruled-one early late (SettledUnkept i m outcome told) at = tt
 
     ruled-from : (early late : List Step) (g : Ledger) → front ≡ early ++ late → ledger_of lives n early ≡ g → AreRuled (lives n).settings grow (WasHeld front) g (deeds_of n late)
     ruled-from early [] g at same = tt
@@ -175,8 +177,8 @@ module _ (s : Settings) (number : ℕ) (key : RequestKey) (i : ℕ) where
       record { less = k.0; parked_is = k.1; has = subst (λ (o : Option Awaited). HasKey o key) (sym (put-else a.request.number (Some a.request) g.there number apart)) h.has }
   watched-deed g (GivenUp a handled) x other h = record { less = h.less; parked_is = h.parked_is; has = h.has }
   watched-deed g (Settled j m outcome told) x other h = let k = changed-watched g j m (known outcome) h x.2 other in record { less = h.less; parked_is = k.0; has = k.1 }
-  watched-deed g (Declined a name minor written) x other h = let k = grown-watched g a.request.call (known (not_now name minor)) h in record { less = k.0; parked_is = k.1; has = h.has }
-  watched-deed g (Withdrawn j m name minor told) x other h = let k = changed-watched g j m (known (not_now name minor)) h x.2 other in record { less = h.less; parked_is = k.0; has = k.1 }
+  watched-deed g (AnsweredUnkept a outcome written) x other h = let k = grown-watched g a.request.call (known outcome) h in record { less = k.0; parked_is = k.1; has = h.has }
+  watched-deed g (SettledUnkept j m outcome told) x other h = let k = changed-watched g j m (known outcome) h x.2 other in record { less = h.less; parked_is = k.0; has = k.1 }
 
   pub watched-deeds : (g : Ledger) (ds : List Deed) → Runs s g ds → list_any (settles number) ds ≡ false → Watched g → Watched (after_deeds s g ds)
   watched-deeds g [] runs other h = h
@@ -185,23 +187,30 @@ module _ (s : Settings) (number : ℕ) (key : RequestKey) (i : ℕ) where
       watched-deeds (after_deed s g d) ds runs.1 parts.1 (watched-deed g d runs.0 parts.0 h)
 
 module _ (lives : ℕ → Life) where
-  pub told-are-held : HearingGrows meaning_in → ToldAreHeld lives
-  told-are-held grow steps front between rest n d a i j number key expiration outcome told runs owned is said has less now other =
+  -- whose call is parked under a number, with which key, when something is done under it next
+  waits-there : HearingGrows meaning_in → (steps front between rest : List Step) (n : ℕ) (d last : Deed) (a : Arrival Wanted) (i number : ℕ) (key : RequestKey) (expiration : ℕ) → AreLives lives steps → IsOwned lives steps
+      → steps ≡ (front ++ Did n d ∷ between) ++ Did n last ∷ rest → Says (lives n).settings (ledger_of lives n front) d a (Ok i) → a.field ≡ Present key expiration
+      → i < length (ledger_of lives n front).calls → (ledger_of lives n front).held i ≡ parked number → list_any (settles number) (deeds_of n (Did n d ∷ between)) ≡ false
+      → HasKey ((ledger_of lives n (front ++ Did n d ∷ between)).there number) key
+  waits-there grow steps front between rest n d last a i number key expiration runs owned is said has less now other =
       let s = (lives n).settings in
       let g = ledger_of lives n front in
       let mid = Did n d ∷ between in
-      let last = Did n (Settled j number outcome told) in
-      let whole : steps ≡ front ++ (mid ++ last ∷ rest) = is ∙ append_assoc front mid (last ∷ rest) in
-      let st = front-stands lives grow n steps front (mid ++ last ∷ rest) owned whole runs in
+      let end = Did n last in
+      let whole : steps ≡ front ++ (mid ++ end ∷ rest) = is ∙ append_assoc front mid (end ∷ rest) in
+      let st = front-stands lives grow n steps front (mid ++ end ∷ rest) owned whole runs in
       let e = said-entry lives s grow (WasHeld front) g d a i key expiration st said has less in
       let key_has : HasKey (g.there number) key = subst (λ (k : RequestKey). HasKey (g.there number) k) e.1 (e.3.waits number (ap g.held e.2 ∙ now)) in
-      let ran : Runs s (opening (lives n).held) (deeds_of n (front ++ mid) ++ deeds_of n (last ∷ rest)) = runs-before lives n steps (front ++ mid) (last ∷ rest) runs is in
-      let first = runs-front s (opening (lives n).held) (deeds_of n (front ++ mid)) (deeds_of n (last ∷ rest)) ran in
+      let ran : Runs s (opening (lives n).held) (deeds_of n (front ++ mid) ++ deeds_of n (end ∷ rest)) = runs-before lives n steps (front ++ mid) (end ∷ rest) runs is in
+      let first = runs-front s (opening (lives n).held) (deeds_of n (front ++ mid)) (deeds_of n (end ∷ rest)) ran in
       let split : Runs s (opening (lives n).held) (deeds_of n front ++ deeds_of n mid) = subst (λ (l : List Deed). Runs s (opening (lives n).held) l) (deeds-append n front mid) first in
       let mids = runs-back s (opening (lives n).held) (deeds_of n front) (deeds_of n mid) split in
       let w = watched-deeds s number key i g (deeds_of n mid) mids other (record { less = less; parked_is = now; has = key_has }) in
-      let there : HasKey ((ledger_of lives n (front ++ mid)).there number) key = subst (λ (h : Ledger). HasKey (h.there number) key) (sym (ledger-more lives n front mid)) w.has in
-      from ((ledger_of lives n (front ++ mid)).there number) refl there
+      subst (λ (h : Ledger). HasKey (h.there number) key) (sym (ledger-more lives n front mid)) w.has
+
+  pub told-are-held : HearingGrows meaning_in → ToldAreHeld lives
+  told-are-held grow steps front between rest n d a i j number key expiration outcome told runs owned is said has less now other =
+      from ((ledger_of lives n (front ++ Did n d ∷ between)).there number) refl (waits-there grow steps front between rest n d (Settled j number outcome told) a i number key expiration runs owned is said has less now other)
     where
       from : (o : Option Awaited) → (ledger_of lives n (front ++ Did n d ∷ between)).there number ≡ o → HasKey o key → WasHeld (front ++ Did n d ∷ between) key outcome
       from None at none = absurd none
@@ -295,35 +304,73 @@ module _ (lives : ℕ → Life) where
         still = λ none. subst (λ (l : List Step). held_for key (stored l) ≡ None) (sym f.point) (free-stays steps rest key kept f.before f.after (is ∙ ap (λ (l : List Step). l ++ rest) f.point) f.free none);
       })
 
-  pub declined-are-free : DeclinedAreFree lives
-  declined-are-free steps front rest n (Happened e written note) w name key expiration kept owned is said has = absurd cc
-  declined-are-free steps front rest n (Stopped p written v q) w name key expiration kept owned is said has = absurd cc
-  declined-are-free steps front rest n (Joined p written m joined) w name key expiration kept owned is said has = absurd cc
-  declined-are-free steps front rest n (Answered a outcome written note) w name key expiration kept owned is said has = absurd cc
-  declined-are-free steps front rest n (Parked a own) w name key expiration kept owned is said has = absurd cc
-  declined-are-free steps front rest n (GivenUp a handled) w name key expiration kept owned is said has = absurd cc
-  declined-are-free steps front rest n (Settled i m outcome told) w name key expiration kept owned is said has = absurd cc
-  declined-are-free steps front rest n (Declined a by minor written) w name key expiration kept owned is said has =
-      let both : (a.request, by) ≡ (w, name) = some-is (a.request, by) (w, name) said in
-      let request : a.request ≡ w = ap (λ (x : Awaited × SystemName). x.0) both in
-      let named : by ≡ name = ap (λ (x : Awaited × SystemName). x.1) both in
-      let x = Did n (Declined a by minor written) in
-      let may = may-be-free steps front (x ∷ rest) n a.request by key expiration kept is
-      (owned.declined front rest n a by minor written key expiration is (ap (λ (v : Awaited). v.field) request ∙ has)) in
-      subst (λ (v : Awaited). ((name ≡ BadContext) × WasOver front expiration) ⊎ IsFree steps front n v.number key) request
-      (subst (λ (m : SystemName). ((m ≡ BadContext) × WasOver front expiration) ⊎ IsFree steps front n a.request.number key) named may)
-  declined-are-free steps front rest n (Withdrawn i m by minor told) w name key expiration kept owned is said has = from ((ledger_of lives n front).there m) refl said
-    where
-      x : Step
-      x = Did n (Withdrawn i m by minor told)
+  -- what an owner may tell is told rightly
+  pub told-rightly : (held : Type 0) (steps front rest : List Step) (n : ℕ) (w : Awaited) (key : RequestKey) (expiration : ℕ) (outcome : Performed) → IsKept steps → steps ≡ front ++ rest
+      → (WasHeld front key outcome → held) → MayTell steps front n w key expiration outcome → IsToldRightly held steps front n w key expiration outcome
+  told-rightly held steps front rest n w key expiration outcome kept is brings (inl was) = inl (brings was)
+  told-rightly held steps front rest n w key expiration outcome kept is brings (inr (inl maybe)) = inr (inl maybe)
+  told-rightly held steps front rest n w key expiration outcome kept is brings (inr (inr refuses)) = inr (inr (refuses.0, refuses.1, refuses.2, may-be-free steps front rest n w refuses.0 key expiration kept is refuses.3))
 
-      from : (o : Option Awaited) → (ledger_of lives n front).there m ≡ o → option_map {U = Awaited × SystemName} (λ (v : Awaited). (v, by)) o ≡ Some (w, name) → ((name ≡ BadContext) × WasOver front expiration) ⊎ IsFree steps front n w.number key
+  -- .. and so it is to a repeat that waits with it
+  pub waiter-told : HearingGrows meaning_in → (held : Type 0) (steps front between rest : List Step) (n : ℕ) (d : Deed) (a : Arrival Wanted) (i j number : ℕ) (key : RequestKey) (expiration : ℕ) (outcome : Performed) (told : List Told) → AreLives lives steps → IsKept steps → IsOwned lives steps
+      → (WasHeld (front ++ Did n d ∷ between) key outcome → held)
+      → steps ≡ front ++ Did n d ∷ between ++ Did n (SettledUnkept j number outcome told) ∷ rest → Says (lives n).settings (ledger_of lives n front) d a (Ok i) → a.field ≡ Present key expiration
+      → i < length (ledger_of lives n front).calls → (ledger_of lives n front).held i ≡ parked number → list_any (settles number) (deeds_of n (Did n d ∷ between)) ≡ false
+      → (w : Awaited) × (late : ℕ) × (w.field ≡ Present key late) × IsToldRightly held steps (front ++ Did n d ∷ between) n w key late outcome
+  waiter-told grow held steps front between rest n d a i j number key expiration outcome told runs kept owned brings is said has less now other =
+      from ((ledger_of lives n (front ++ Did n d ∷ between)).there number) refl (waits-there lives grow steps front between rest n d (SettledUnkept j number outcome told) a i number key expiration runs owned is said has less now other)
+    where
+      from : (o : Option Awaited) → (ledger_of lives n (front ++ Did n d ∷ between)).there number ≡ o → HasKey o key
+          → (w : Awaited) × (late : ℕ) × (w.field ≡ Present key late) × IsToldRightly held steps (front ++ Did n d ∷ between) n w key late outcome
+      from None at none = absurd none
+      from (Some w) at has_it = (
+        w,
+        has_it.0,
+        has_it.1,
+        told-rightly held steps (front ++ Did n d ∷ between) (Did n (SettledUnkept j number outcome told) ∷ rest) n w key has_it.0 outcome kept is brings
+            (owned.settled_unkept (front ++ Did n d ∷ between) rest n j number outcome told w key has_it.0 is at has_it.1),
+      )
+
+  pub waiters-are-told-rightly : HearingGrows meaning_in → WaitersAreToldRightly lives
+  waiters-are-told-rightly grow steps front between rest n d a i j number key expiration outcome told runs kept owned is said has less now other =
+      waiter-told grow (WasHeld (front ++ Did n d ∷ between) key outcome) steps front between rest n d a i j number key expiration outcome told runs kept owned (λ was. was) is said has less now other
+
+  pub unkept-are-right : UnkeptAreRight lives
+  unkept-are-right steps front rest n (Happened e written note) w outcome key expiration kept owned is said has = absurd cc
+  unkept-are-right steps front rest n (Stopped p written v q) w outcome key expiration kept owned is said has = absurd cc
+  unkept-are-right steps front rest n (Joined p written m joined) w outcome key expiration kept owned is said has = absurd cc
+  unkept-are-right steps front rest n (Answered a o written note) w outcome key expiration kept owned is said has = absurd cc
+  unkept-are-right steps front rest n (Parked a own) w outcome key expiration kept owned is said has = absurd cc
+  unkept-are-right steps front rest n (GivenUp a handled) w outcome key expiration kept owned is said has = absurd cc
+  unkept-are-right steps front rest n (Settled i m o told) w outcome key expiration kept owned is said has = absurd cc
+  unkept-are-right steps front rest n (AnsweredUnkept a o written) w outcome key expiration kept owned is said has =
+      let both : (a.request, o) ≡ (w, outcome) = some-is (a.request, o) (w, outcome) said in
+      let request : a.request ≡ w = ap (λ (x : Awaited × Performed). x.0) both in
+      let same : o ≡ outcome = ap (λ (x : Awaited × Performed). x.1) both in
+      let may = owned.answered_unkept front rest n a o written key expiration is (ap (λ (v : Awaited). v.field) request ∙ has) in
+      told-rightly (WasHeld front key outcome) steps front (Did n (AnsweredUnkept a o written) ∷ rest) n w key expiration outcome kept is (λ was. was)
+      (subst (λ (v : Awaited). MayTell steps front n v key expiration outcome) request (subst (λ (p : Performed). MayTell steps front n a.request key expiration p) same may))
+  unkept-are-right steps front rest n (SettledUnkept i m o told) w outcome key expiration kept owned is said has = from ((ledger_of lives n front).there m) refl said
+    where
+      from : (x : Option Awaited) → (ledger_of lives n front).there m ≡ x → option_map {U = Awaited × Performed} (λ (v : Awaited). (v, o)) x ≡ Some (w, outcome) → IsToldRightly (WasHeld front key outcome) steps front n w key expiration outcome
       from None there at = absurd cc
       from (Some v) there at =
-          let both : (v, by) ≡ (w, name) = some-is (v, by) (w, name) at in
-          let request : v ≡ w = ap (λ (x : Awaited × SystemName). x.0) both in
-          let named : by ≡ name = ap (λ (x : Awaited × SystemName). x.1) both in
-          let may = may-be-free steps front (Did n (Withdrawn i m by minor told) ∷ rest) n v by key expiration kept is
-          (owned.withdrawn front rest n i m by minor told v key expiration is there (ap (λ (z : Awaited). z.field) request ∙ has)) in
-          subst (λ (z : Awaited). ((name ≡ BadContext) × WasOver front expiration) ⊎ IsFree steps front n z.number key) request
-          (subst (λ (m : SystemName). ((m ≡ BadContext) × WasOver front expiration) ⊎ IsFree steps front n v.number key) named may)
+          let both : (v, o) ≡ (w, outcome) = some-is (v, o) (w, outcome) at in
+          let request : v ≡ w = ap (λ (x : Awaited × Performed). x.0) both in
+          let same : o ≡ outcome = ap (λ (x : Awaited × Performed). x.1) both in
+          let may = owned.settled_unkept front rest n i m o told v key expiration is there (ap (λ (z : Awaited). z.field) request ∙ has) in
+          told-rightly (WasHeld front key outcome) steps front (Did n (SettledUnkept i m o told) ∷ rest) n w key expiration outcome kept is (λ was. was)
+          (subst (λ (z : Awaited). MayTell steps front n z key expiration outcome) request (subst (λ (p : Performed). MayTell steps front n v key expiration p) same may))
+
+  -- COMPLETED_NO is not COMPLETED_MAYBE, and has one name
+  no-is-no : (name by : SystemName) (minor code_is : ℕ) (completion : Completion) → IsException by code_is completion (not_now name minor) → (by ≡ name) × (completion ≡ No)
+  no-is-no name by minor code_is completion (inl same) = (cc, cc)
+  no-is-no name by minor code_is completion (inr octets) = absurd (let same = octets.1 in cc)
+
+  pub declined-are-free : DeclinedAreFree lives
+  declined-are-free steps front rest n d w name minor key expiration kept owned is said has = from (unkept-are-right steps front rest n d w (not_now name minor) key expiration kept owned is said has)
+    where
+      from : IsToldRightly (WasHeld front key (not_now name minor)) steps front n w key expiration (not_now name minor) → WasHeld front key (not_now name minor) ⊎ IsOverOrFree steps front n w key expiration name
+      from (inl was) = inl was
+      from (inr (inl maybe)) = absurd (let same = no-is-no name maybe.0 minor maybe.1 Maybe maybe.2 in let bad = same.1 in cc)
+      from (inr (inr refuses)) = inr (subst (λ (m : SystemName). IsOverOrFree steps front n w key expiration m) (no-is-no name refuses.0 minor refuses.1 No refuses.2).0 refuses.3)

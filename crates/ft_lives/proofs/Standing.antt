@@ -8,16 +8,15 @@ use Rattle.ft_log.specs.Holding.{Holding, known, parked}
 use Rattle.ft_log.specs.Keys.{RequestKey}
 use Rattle.ft_log.specs.Kept.{KeptOutcome}
 use Rattle.ft_log.specs.Performed.{Performed}
-use Rattle.ft_log.specs.declared.system_exception.SystemName.{SystemName}
 use Rattle.ft_orb.specs.declared.events.Note.{Note}
 use Rattle.ft_orb.specs.declared.events.Note.TheVariants.{Done, Memory}
 use Rattle.ft_orb.specs.declared.parked.Waiter.{Waiter}
-use Rattle.ft_orb.specs.Deeds.{Answered, AreApart, Asking, Declined, Deed, GivenUp, Happened, IsDeed, Joined, Ledger, Parked, Part, Runs, Settled, Stopped, Told, Withdrawn, after_deed, after_deeds, opening, part_of, piece_of, told_all, without_call}
+use Rattle.ft_orb.specs.Deeds.{Answered, AnsweredUnkept, AreApart, Asking, Deed, GivenUp, Happened, IsDeed, Joined, Ledger, Parked, Part, Runs, Settled, SettledUnkept, Stopped, Told, after_deed, after_deeds, opening, part_of, piece_of, told_all, without_call}
 use Rattle.ft_orb.specs.Engines.{Awaited}
 use Rattle.ft_orb.specs.ExactlyOnce.{Present}
 use Rattle.ft_orb.specs.History.{Event, Piece, Withdrew, completed}
 use Rattle.ft_orb.specs.Outputs.{after}
-use Rattle.ft_orb.specs.Parking.{Settings, not_now, put_at}
+use Rattle.ft_orb.specs.Parking.{Settings, put_at}
 use Rattle.ft_orb.specs.Requests.{Call}
 use Rattle.ft_orb.specs.Table.{Table}
 use Rattle.ft_lives.proofs.Sound.{HasKey, IsSound, Waits, after-kept, answer-taken, event-kept, piece-taken, put-else, put-here, table, told-table}
@@ -83,8 +82,8 @@ module _ (s : Settings) (grow : HearingGrows meaning_in) (May : RequestKey → P
   IsRuled g (Parked a own) = Unit {0}
   IsRuled g (GivenUp a handled) = Unit {0}
   IsRuled g (Settled i n outcome told) = (w : Awaited) (key : RequestKey) (expiration : ℕ) → g.there n ≡ Some w → w.field ≡ Present key expiration → May key outcome
-  IsRuled g (Declined a name minor written) = Unit {0}
-  IsRuled g (Withdrawn i n name minor told) = Unit {0}
+  IsRuled g (AnsweredUnkept a outcome written) = Unit {0}
+  IsRuled g (SettledUnkept i n outcome told) = Unit {0}
 
   abbrev pub AreRuled : Ledger → List Deed → Type 0
   AreRuled g [] = Unit {0}
@@ -272,31 +271,29 @@ module _ (s : Settings) (grow : HearingGrows meaning_in) (May : RequestKey → P
           }
       by e h (inr other) = sound-changed (length g.calls) i n (known outcome) g.held g.there (λ j less is. st.apart j i n less d.1 is d.2) e (apart-is e.outcome i other) h
 
-  declined : (g : Ledger) (a : Asking) (name : SystemName) (minor : ℕ) (written : List ℕ) → Stands g → IsDeed s g (Declined a name minor written) → Stands (after_deed s g (Declined a name minor written))
-  declined g a name minor written st d =
+  answered-unkept : (g : Ledger) (a : Asking) (outcome : Performed) (written : List ℕ) → Stands g → IsDeed s g (AnsweredUnkept a outcome written) → Stands (after_deed s g (AnsweredUnkept a outcome written))
+  answered-unkept g a outcome written st d =
       let now = d.2 in
       let call = a.request.call in
-      let refusal = not_now name minor in
-      let held = put_at (length g.calls) (known refusal) g.held in
+      let held = put_at (length g.calls) (known outcome) g.held in
       let Q = IsSound May (length g.calls) g.held g.there in
       let P = IsSound May (length (g.calls ++ call ∷ [])) held g.there in
       let R : KeptOutcome ℕ → Type 0 = λ e. not (e.outcome == length g.calls) ≡ true → P e in
       let piece = piece-taken s grow R g a (st.waits a d.0) st.taken
-      (all-map Q R (table s grow g.past).entries (λ e h is. sound-old g.calls call (known refusal) g.held g.there g.there (λ i m less is. refl) e h) st.entries) now
+      (all-map Q R (table s grow g.past).entries (λ e h is. sound-old g.calls call (known outcome) g.held g.there g.there (λ i m less is. refl) e h) st.entries) now
       (λ key expiration is own. absurd (let e = eq-eqb (length g.calls) (length g.calls) refl in let bad : not true ≡ true = ap not (sym e) ∙ own in cc)) in
       record {
         taken = now;
         entries = all-map (λ e. (not (e.outcome == length g.calls) ≡ true) × R e) P (table s grow (Withdrew (length g.calls) ∷ piece_of a ∷ g.past)).entries (λ e x. x.1 x.0)
             (all-filter R (λ e. not (e.outcome == length g.calls)) (table s grow (piece_of a ∷ g.past)).entries piece);
-        apart = apart-more g.calls call (known refusal) g.held st.apart (λ i m less is at. known-parked refusal m at);
+        apart = apart-more g.calls call (known outcome) g.held st.apart (λ i m less is at. known-parked outcome m at);
         waits = λ b is. no-waits _ b is;
       }
 
-  withdrawn : (g : Ledger) (i n : ℕ) (name : SystemName) (minor : ℕ) (told : List Told) → Stands g → IsDeed s g (Withdrawn i n name minor told) → Stands (after_deed s g (Withdrawn i n name minor told))
-  withdrawn g i n name minor told st d =
+  settled-unkept : (g : Ledger) (i n : ℕ) (outcome : Performed) (told : List Told) → Stands g → IsDeed s g (SettledUnkept i n outcome told) → Stands (after_deed s g (SettledUnkept i n outcome told))
+  settled-unkept g i n outcome told st d =
       let now = d.5 in
-      let refusal = not_now name minor in
-      let held = put_at i (known refusal) g.held in
+      let held = put_at i (known outcome) g.held in
       let there = put_at n None g.there in
       let Q = IsSound May (length g.calls) g.held g.there in
       let P = IsSound May (length g.calls) held there in
@@ -305,8 +302,8 @@ module _ (s : Settings) (grow : HearingGrows meaning_in) (May : RequestKey → P
         taken = now;
         entries = subst (λ (t : Table (List Call) ℕ). AllByRecursion P t.entries) (sym (told-table s grow n (without_call i g) told))
             (all-map (λ e. (not (e.outcome == i) ≡ true) × Q e) P (table s grow (Withdrew i ∷ g.past)).entries
-            (λ e x. sound-changed (length g.calls) i n (known refusal) g.held g.there (λ j less is. st.apart j i n less d.1 is d.2) e (else e x.0) x.1) less);
-        apart = apart-changed (length g.calls) i refusal g.held st.apart;
+            (λ e x. sound-changed (length g.calls) i n (known outcome) g.held g.there (λ j less is. st.apart j i n less d.1 is d.2) e (else e x.0) x.1) less);
+        apart = apart-changed (length g.calls) i outcome g.held st.apart;
         waits = λ b is. no-waits _ b is;
       }
     where
@@ -321,8 +318,8 @@ module _ (s : Settings) (grow : HearingGrows meaning_in) (May : RequestKey → P
   stands-after_deed g (Parked a own) st rule d = did-park g a own st d
   stands-after_deed g (GivenUp a handled) st rule d = given-up g a handled st d
   stands-after_deed g (Settled i n outcome told) st rule d = settled g i n outcome told st rule d
-  stands-after_deed g (Declined a name minor written) st rule d = declined g a name minor written st d
-  stands-after_deed g (Withdrawn i n name minor told) st rule d = withdrawn g i n name minor told st d
+  stands-after_deed g (AnsweredUnkept a outcome written) st rule d = answered-unkept g a outcome written st d
+  stands-after_deed g (SettledUnkept i n outcome told) st rule d = settled-unkept g i n outcome told st d
 
   pub stands-after : (g : Ledger) (ds : List Deed) → Stands g → AreRuled g ds → Runs s g ds → Stands (after_deeds s g ds)
   stands-after g [] st rules runs = st

@@ -2,12 +2,13 @@
 use Rattle.std.proofs.Common.{◌≡◌, ℕ}
 use Rattle.giop_link.specs.Hearing.{meaning_in}
 use Rattle.giop_link.specs.Laws.{HearingGrows}
-use Rattle.ft_orb.specs.Deeds.{Answered, Settled}
+use Rattle.ft_orb.specs.Deeds.{Answered, AnsweredUnkept, Settled, SettledUnkept}
 use Rattle.std.specs.Prelude.{List, ◌∷◌, ◌++◌}
+use Rattle.ft_lives.specs.Laws.{IsTheOutcome}
 use Rattle.ft_lives.specs.Lives.{Did, Life, Step}
 use Rattle.ft_lives.specs.Together.{ActsOnce, LivesActOnce}
 use Rattle.ft_lives.proofs.Committed.{commits-were-admitted, held-is-committed, key-commits-once}
-use Rattle.ft_lives.proofs.Repeated.{repeats-are-held, told-are-held}
+use Rattle.ft_lives.proofs.Repeated.{repeats-are-held, told-are-held, told-rightly, waiter-told}
 
 pub lives-act-once : (lives : ℕ → Life) → HearingGrows meaning_in → LivesActOnce lives
 lives-act-once lives grow steps key runs kept owned one = record {
@@ -22,4 +23,15 @@ lives-act-once lives grow steps key runs kept owned one = record {
   told = λ front between rest n d a i j number expiration outcome told is said field less now other.
       held-is-committed lives steps (front ++ Did n d ∷ between) (Did n (Settled j number outcome told) ∷ rest) key outcome kept owned one is
       (told-are-held lives grow steps front between rest n d a i j number key expiration outcome told runs owned is said field less now other);
+  answered_unkept = λ front rest n a outcome written expiration is field.
+      let x = Did n (AnsweredUnkept a outcome written) in
+      told-rightly lives (IsTheOutcome steps key outcome) steps front (x ∷ rest) n a.request key expiration outcome kept is (λ was. held-is-committed lives steps front (x ∷ rest) key outcome kept owned one is was)
+      (owned.answered_unkept front rest n a outcome written key expiration is field);
+  settled_unkept = λ front rest n i number outcome told w expiration is there field.
+      let x = Did n (SettledUnkept i number outcome told) in
+      told-rightly lives (IsTheOutcome steps key outcome) steps front (x ∷ rest) n w key expiration outcome kept is (λ was. held-is-committed lives steps front (x ∷ rest) key outcome kept owned one is was)
+      (owned.settled_unkept front rest n i number outcome told w key expiration is there field);
+  told_unkept = λ front between rest n d a i j number expiration outcome told is said field less now other.
+      waiter-told lives grow (IsTheOutcome steps key outcome) steps front between rest n d a i j number key expiration outcome told runs kept owned
+      (λ was. held-is-committed lives steps (front ++ Did n d ∷ between) (Did n (SettledUnkept j number outcome told) ∷ rest) key outcome kept owned one is was) is said field less now other;
 }

@@ -3,7 +3,7 @@
 use Rattle.std.specs.Prelude.{◌≡◌, ℕ, ◌==◌, if◌then◌else◌, List, [], ◌∷◌, ◌++◌, flat_map, Contains}
 use Rattle.ft_log.specs.Holding.{Holding}
 use Rattle.ft_log.specs.Keys.{RequestKey}
-use Rattle.ft_orb.specs.Deeds.{Answered, Declined, Deed, GivenUp, Happened, Joined, Ledger, Parked, Runs, Settled, Stopped, Withdrawn, after_deeds, opening}
+use Rattle.ft_orb.specs.Deeds.{Answered, AnsweredUnkept, Deed, GivenUp, Happened, Joined, Ledger, Parked, Runs, Settled, SettledUnkept, Stopped, after_deeds, opening}
 use Rattle.ft_orb.specs.Engines.{Awaited}
 use Rattle.ft_orb.specs.ExactlyOnce.{Present}
 use Rattle.ft_orb.specs.Parking.{Settings}
@@ -33,8 +33,8 @@ asked_by (Answered a outcome written note) = []
 asked_by (Parked a own) = []
 asked_by (GivenUp a handled) = []
 asked_by (Settled i n outcome told) = []
-asked_by (Declined a name minor written) = []
-asked_by (Withdrawn i n name minor told) = []
+asked_by (AnsweredUnkept a outcome written) = []
+asked_by (SettledUnkept i n outcome told) = []
 
 -- the requests that a life asked for in these steps
 abbrev pub requests_of : ℕ → List Step → List Awaited

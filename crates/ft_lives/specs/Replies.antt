@@ -5,18 +5,19 @@ use Rattle.std.specs.Option.{option_map}
 use Rattle.ft_log.specs.Holding.{known, parked}
 use Rattle.ft_log.specs.Keys.{RequestKey}
 use Rattle.ft_log.specs.Performed.{Performed}
+use Rattle.ft_log.specs.declared.system_exception.Completion.TheVariants.{No}
 use Rattle.ft_log.specs.declared.system_exception.SystemName.{SystemName}
 use Rattle.ft_log.specs.declared.system_exception.SystemName.TheVariants.{BadContext}
-use Rattle.ft_orb.specs.Deeds.{Answered, Declined, Deed, GivenUp, Happened, Joined, Ledger, Parked, Settled, Stopped, Told, Withdrawn, part_of, settles}
+use Rattle.ft_orb.specs.Deeds.{Answered, AnsweredUnkept, Deed, GivenUp, Happened, Joined, Ledger, Parked, Settled, SettledUnkept, Stopped, Told, part_of, settles}
 use Rattle.ft_orb.specs.Engines.{Awaited}
 use Rattle.ft_orb.specs.ExactlyOnce.{Arrival, Present}
 use Rattle.ft_orb.specs.History.{Event, completed}
 use Rattle.ft_orb.specs.Owners.{owned_rules, owned_table}
-use Rattle.ft_orb.specs.Parking.{Settings, by_number}
+use Rattle.ft_orb.specs.Parking.{Settings, by_number, not_now}
 use Rattle.ft_orb.specs.Requests.{Wanted}
 use Rattle.ft_orb.specs.Table.{table_after, table_step}
 use Rattle.ft_lives.specs.Lives.{AreLives, Did, IsKept, Life, Step, Stored, deeds_of, ledger_of, stored}
-use Rattle.ft_lives.specs.Owned.{IsOwned, WasHeld, WasOver}
+use Rattle.ft_lives.specs.Owned.{IsException, IsMaybe, IsOwned, WasHeld, WasOver}
 use Rattle.ft_lives.specs.Stores.{Ask, Committed, Row, held_for}
 
 -- the event of which a deed takes arrivals, if it takes any
@@ -28,8 +29,8 @@ event_in (Answered a outcome written note) = None
 event_in (Parked a own) = None
 event_in (GivenUp a handled) = None
 event_in (Settled i n outcome told) = None
-event_in (Declined a name minor written) = None
-event_in (Withdrawn i n name minor told) = None
+event_in (AnsweredUnkept a outcome written) = None
+event_in (SettledUnkept i n outcome told) = None
 
 -- What an engine of which so much is known says to an arrival that a deed takes: the number of a call, or what refuses it.
 pub record Says (s : Settings) (g : Ledger) (d : Deed) (a : Arrival Wanted) (answer : Result ℕ SystemName) : Type 0 where
@@ -50,17 +51,25 @@ pub record IsFree (steps front : List Step) (life number : ℕ) (key : RequestKe
   pub uncommitted : (ask : Ask) (row : Row) → Contains steps (Stored (Committed ask row)) → ask.life ≡ life → ask.number ≡ number → ⊥
   pub still : ((ask : Ask) (row : Row) → Contains after (Stored (Committed ask row)) → row.key ≡ key → ⊥) → held_for key (stored front) ≡ None
 
--- the request that a deed declines, if it declines one, and by what
-abbrev pub declined_in : Ledger → Deed → Option (Awaited × SystemName)
-declined_in g (Happened e written note) = None
-declined_in g (Stopped p written w q) = None
-declined_in g (Joined p written n joined) = None
-declined_in g (Answered a outcome written note) = None
-declined_in g (Parked a own) = None
-declined_in g (GivenUp a handled) = None
-declined_in g (Settled i n outcome told) = None
-declined_in g (Declined a name minor written) = Some (a.request, name)
-declined_in g (Withdrawn i n name minor told) = option_map (λ w. (w, name)) (g.there n)
+-- the request of which a deed tells an outcome that is not kept, if it does, and that outcome
+abbrev pub unkept_in : Ledger → Deed → Option (Awaited × Performed)
+unkept_in g (Happened e written note) = None
+unkept_in g (Stopped p written w q) = None
+unkept_in g (Joined p written n joined) = None
+unkept_in g (Answered a outcome written note) = None
+unkept_in g (Parked a own) = None
+unkept_in g (GivenUp a handled) = None
+unkept_in g (Settled i n outcome told) = None
+unkept_in g (AnsweredUnkept a outcome written) = Some (a.request, outcome)
+unkept_in g (SettledUnkept i n outcome told) = option_map (λ w. (w, outcome)) (g.there n)
+
+-- a refusal that says that nothing was done is of a request that is over, by the mark, or of one that is free
+abbrev pub IsOverOrFree : (steps front : List Step) → (life : ℕ) → Awaited → RequestKey → (expiration : ℕ) → SystemName → Type 0
+IsOverOrFree steps front life w key expiration name = ((name ≡ BadContext) × WasOver front expiration) ⊎ IsFree steps front life w.number key
+
+-- What was told of a request and not kept is the store's, as `held` says; or it says COMPLETED_MAYBE; or COMPLETED_NO, and that is true.
+abbrev pub IsToldRightly : (held : Type 0) → (steps front : List Step) → (life : ℕ) → Awaited → RequestKey → (expiration : ℕ) → Performed → Type 0
+IsToldRightly held steps front life w key expiration outcome = held ⊎ (IsMaybe outcome ⊎ ((name : SystemName) × (minor : ℕ) × IsException name minor No outcome × IsOverOrFree steps front life w key expiration name))
 
 module _ (lives : ℕ → Life) where
   -- A repeat that a life answers from its log, by a call that was taken before and whose outcome is known, gets an outcome that the store
@@ -90,8 +99,22 @@ module _ (lives : ℕ → Life) where
       → steps ≡ front ++ Did n d ∷ rest → Says (lives n).settings (ledger_of lives n front) d a (Err name) → a.field ≡ Present key expiration
       → ((name ≡ BadContext) × (expiration < a.clock)) ⊎ (held_for key (stored front) ≡ None)
 
-  -- No owner's refusal is of a key that the store holds, but BAD_CONTEXT of one whose expiration lies before the mark.
+  -- What an owner tells unkept is what the store held for the key, says COMPLETED_MAYBE, or says COMPLETED_NO of what is over or free.
+  abbrev pub UnkeptAreRight : Type 0
+  UnkeptAreRight = (steps front rest : List Step) (n : ℕ) (d : Deed) (w : Awaited) (outcome : Performed) (key : RequestKey) (expiration : ℕ) → IsKept steps → IsOwned lives steps
+      → steps ≡ front ++ Did n d ∷ rest → unkept_in (ledger_of lives n front) d ≡ Some (w, outcome) → w.field ≡ Present key expiration
+      → IsToldRightly (WasHeld front key outcome) steps front n w key expiration outcome
+
+  -- So no owner's refusal is of a key that the store holds, but BAD_CONTEXT of one whose expiration lies before the mark, and one that is
+  -- itself the outcome that the store held.
   abbrev pub DeclinedAreFree : Type 0
-  DeclinedAreFree = (steps front rest : List Step) (n : ℕ) (d : Deed) (w : Awaited) (name : SystemName) (key : RequestKey) (expiration : ℕ) → IsKept steps → IsOwned lives steps
-      → steps ≡ front ++ Did n d ∷ rest → declined_in (ledger_of lives n front) d ≡ Some (w, name) → w.field ≡ Present key expiration
-      → ((name ≡ BadContext) × WasOver front expiration) ⊎ IsFree steps front n w.number key
+  DeclinedAreFree = (steps front rest : List Step) (n : ℕ) (d : Deed) (w : Awaited) (name : SystemName) (minor : ℕ) (key : RequestKey) (expiration : ℕ) → IsKept steps → IsOwned lives steps
+      → steps ≡ front ++ Did n d ∷ rest → unkept_in (ledger_of lives n front) d ≡ Some (w, not_now name minor) → w.field ≡ Present key expiration
+      → WasHeld front key (not_now name minor) ⊎ IsOverOrFree steps front n w key expiration name
+
+  -- A repeat that waits with the request under a number is told so too.
+  abbrev pub WaitersAreToldRightly : Type 0
+  WaitersAreToldRightly = (steps front between rest : List Step) (n : ℕ) (d : Deed) (a : Arrival Wanted) (i j number : ℕ) (key : RequestKey) (expiration : ℕ) (outcome : Performed) (told : List Told) → AreLives lives steps → IsKept steps → IsOwned lives steps
+      → steps ≡ front ++ Did n d ∷ between ++ Did n (SettledUnkept j number outcome told) ∷ rest → Says (lives n).settings (ledger_of lives n front) d a (Ok i) → a.field ≡ Present key expiration
+      → i < length (ledger_of lives n front).calls → (ledger_of lives n front).held i ≡ parked number → list_any (settles number) (deeds_of n (Did n d ∷ between)) ≡ false
+      → (w : Awaited) × (late : ℕ) × (w.field ≡ Present key late) × IsToldRightly (WasHeld (front ++ Did n d ∷ between) key outcome) steps (front ++ Did n d ∷ between) n w key late outcome

@@ -5,14 +5,14 @@ use Rattle.ft_log.specs.Holding.{known, parked}
 use Rattle.ft_log.specs.Keys.{RequestKey}
 use Rattle.ft_log.specs.Performed.{Performed}
 use Rattle.ft_orb.specs.declared.events.Note.{Note}
-use Rattle.ft_orb.specs.Deeds.{Answered, Asking, Deed, Settled, Told, settles}
+use Rattle.ft_orb.specs.Deeds.{Answered, AnsweredUnkept, Asking, Deed, Settled, SettledUnkept, Told, settles}
 use Rattle.ft_orb.specs.Engines.{Awaited}
 use Rattle.ft_orb.specs.ExactlyOnce.{Arrival, Present}
 use Rattle.ft_orb.specs.Requests.{Wanted}
 use Rattle.ft_lives.specs.Laws.{IsAdmitted, IsTheOutcome}
 use Rattle.ft_lives.specs.Lives.{AreLives, Did, IsKept, Life, OneExpirationOf, Step, Stored, deeds_of, ledger_of}
 use Rattle.ft_lives.specs.Owned.{IsOwned}
-use Rattle.ft_lives.specs.Replies.{Says}
+use Rattle.ft_lives.specs.Replies.{IsToldRightly, Says}
 use Rattle.ft_lives.specs.Stores.{Ask, Committed, Row}
 
 module _ (lives : ℕ → Life) where
@@ -34,6 +34,17 @@ module _ (lives : ℕ → Life) where
     pub told : (front between rest : List Step) (n : ℕ) (d : Deed) (a : Arrival Wanted) (i j number expiration : ℕ) (outcome : Performed) (told : List Told)
         → steps ≡ front ++ Did n d ∷ between ++ Did n (Settled j number outcome told) ∷ rest → Says (lives n).settings (ledger_of lives n front) d a (Ok i) → a.field ≡ Present key expiration
         → i < length (ledger_of lives n front).calls → (ledger_of lives n front).held i ≡ parked number → list_any (settles number) (deeds_of n (Did n d ∷ between)) ≡ false → IsTheOutcome steps key outcome
+    -- What a life tells and does not keep is that too, or refuses rightly: at once ..
+    pub answered_unkept : (front rest : List Step) (n : ℕ) (a : Asking) (outcome : Performed) (written : List ℕ) (expiration : ℕ) → steps ≡ front ++ Did n (AnsweredUnkept a outcome written) ∷ rest
+        → a.request.field ≡ Present key expiration → IsToldRightly (IsTheOutcome steps key outcome) steps front n a.request key expiration outcome
+    -- .. later ..
+    pub settled_unkept : (front rest : List Step) (n i number : ℕ) (outcome : Performed) (told : List Told) (w : Awaited) (expiration : ℕ) → steps ≡ front ++ Did n (SettledUnkept i number outcome told) ∷ rest
+        → (ledger_of lives n front).there number ≡ Some w → w.field ≡ Present key expiration → IsToldRightly (IsTheOutcome steps key outcome) steps front n w key expiration outcome
+    -- .. or to a repeat that waited
+    pub told_unkept : (front between rest : List Step) (n : ℕ) (d : Deed) (a : Arrival Wanted) (i j number expiration : ℕ) (outcome : Performed) (told : List Told)
+        → steps ≡ front ++ Did n d ∷ between ++ Did n (SettledUnkept j number outcome told) ∷ rest → Says (lives n).settings (ledger_of lives n front) d a (Ok i) → a.field ≡ Present key expiration
+        → i < length (ledger_of lives n front).calls → (ledger_of lives n front).held i ≡ parked number → list_any (settles number) (deeds_of n (Did n d ∷ between)) ≡ false
+        → (w : Awaited) × (late : ℕ) × (w.field ≡ Present key late) × IsToldRightly (IsTheOutcome steps key outcome) steps (front ++ Did n d ∷ between) n w key late outcome
 
   abbrev pub LivesActOnce : Type 0
   LivesActOnce = (steps : List Step) (key : RequestKey) → AreLives lives steps → IsKept steps → IsOwned lives steps → OneExpirationOf key steps → ActsOnce steps key

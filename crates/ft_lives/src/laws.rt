@@ -5,7 +5,7 @@ ghost use Rattle.std.specs.Prelude.{ℕ};
 ghost use Rattle.ft_lives.specs.Keeping.{OnceIsOwned, StoresMayForget};
 ghost use Rattle.ft_lives.specs.Laws.{CommitsComeLater, CommitsWereAdmitted, HeldIsCommitted, KeyCommitsOnce};
 ghost use Rattle.ft_lives.specs.Lives.{Life};
-ghost use Rattle.ft_lives.specs.Replies.{DeclinedAreFree, RefusedAreFree, RepeatsAreHeld, ToldAreHeld};
+ghost use Rattle.ft_lives.specs.Replies.{DeclinedAreFree, RefusedAreFree, RepeatsAreHeld, ToldAreHeld, UnkeptAreRight, WaitersAreToldRightly};
 ghost use Rattle.ft_lives.specs.Serial.{SerialIsOfCommits};
 ghost use Rattle.ft_lives.specs.Together.{LivesActOnce};
 
@@ -14,7 +14,8 @@ use ft_objects::Servant;
 
 /// The law over lives, of each key whose requests carry one expiration in all of them: at most one call is committed; it was
 /// asked for before, by an arrival that was not over; and each outcome that a life gives for the key, at once, later or
-/// again, is that of the one commit.
+/// again, kept or not, is that of the one commit. What is told unkept may be a refusal: COMPLETED_MAYBE, or COMPLETED_NO of
+/// what is over, or of which nothing is committed.
 pub fn lives_act_once()
     ensures { (lives : ℕ → Life) → LivesActOnce lives }
 {
@@ -37,10 +38,12 @@ pub fn commits_were_admitted()
 {}
 
 /// Whoever repeats a request gets what the store held for its key: from the log of a life, at once, or once the call that
-/// it waits for is settled.
+/// it waits for is settled. So is what an owner tells unkept, at once or to all who wait, where it is no refusal.
 pub fn replies_are_held()
     ensures repeats { (lives : ℕ → Life) → RepeatsAreHeld lives }
     ensures told { (lives : ℕ → Life) → ToldAreHeld lives }
+    ensures unkept { (lives : ℕ → Life) → UnkeptAreRight lives }
+    ensures waiters { (lives : ℕ → Life) → WaitersAreToldRightly lives }
 {
     giop_link::laws::streams_are_heard::<giop_link::Server>();
 }

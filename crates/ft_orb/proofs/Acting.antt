@@ -15,6 +15,7 @@ use Rattle.ft_log.specs.declared.system_exception.SystemName.{SystemName}
 use Rattle.ft_log.specs.declared.system_exception.SystemName.TheVariants.{BadContext}
 use Rattle.ft_objects.specs.Catalogues.{Offer}
 use Rattle.ft_objects.specs.Interfaces.{IsAnswerOf}
+use Rattle.ft_objects.specs.Replies.{IsRenderable}
 use Rattle.ft_orb.specs.declared.deeds.Deed.{Deed as CodeDeed}
 use Rattle.ft_orb.specs.declared.deeds.Deed.TheVariants as code
 use Rattle.ft_orb.specs.declared.engine.Engine.{Engine}
@@ -29,7 +30,7 @@ use Rattle.ft_orb.specs.declared.events.Written.{Written}
 use Rattle.ft_orb.specs.declared.parked.Parked.{Parked as CodeParked}
 use Rattle.ft_orb.specs.declared.parked.Places.{Places}
 use Rattle.ft_orb.specs.declared.parked.Waiter.{Waiter}
-use Rattle.ft_orb.specs.Deeds.{AreTaken, AreTold, Answered, Asking, Declined, Deed, GivenUp, Happened, HasPlace, IsDeed, IsFor, IsFree, IsUnawaited, Joined, Ledger, Missed, Parked, Reached, Runs, Settled, Stopped, Told, Withdrawn, Wrote, after_deed, after_deeds, changing, note_told, notes_of, opening, piece_of, reply_to, rest_of, told_all, told_one, without_call}
+use Rattle.ft_orb.specs.Deeds.{Answered, AnsweredUnkept, AreTaken, AreTold, Asking, Deed, GivenUp, Happened, HasPlace, IsDeed, IsFor, IsFree, IsUnawaited, Joined, Ledger, Missed, Parked, Reached, Runs, Settled, SettledUnkept, Stopped, Told, Wrote, after_deed, after_deeds, changing, note_told, notes_of, opening, piece_of, reply_to, rest_of, told_all, told_one, without_call}
 use Rattle.ft_orb.specs.DeedsPlayed.{AreOf, Holds, LeaveAtLast, RunsAreAnsweredLate, IsDone, IsOf, IsTold, Shows, StandsAt, left_after, left_fed, left_of}
 use Rattle.ft_orb.specs.Counts.{waiters_on}
 use Rattle.ft_orb.specs.Engines.{Awaited, CanAnswer, IsNumbered, asks_in, awaited_of, waits_in}
@@ -39,7 +40,7 @@ use Rattle.ft_orb.specs.Now.{performed_now}
 use Rattle.ft_orb.specs.Outputs.{Noted, after, noted, output_cut}
 use Rattle.ft_orb.specs.Owners.{owned_rules, owned_says, owned_table, owner_rules}
 use Rattle.ft_orb.specs.Parked.{is_wished, on_going}
-use Rattle.ft_orb.specs.Parking.{AreParked, AsksLate, CanSettle, DeclinesLate, EndsLate, FeedsLate, IsDueLate, IsSettled, Parks, RepeatsLate, RepliesLate, ResumesLate, Settings, Stays, StopsLate, WithdrawsLate, by_number, goes_on, not_now, numbering, parked_at, parked_in, parked_count, parked_of, places_of, places_of_one, put_at, still, told_in, told_of as outcome_of, waiter_of, waits_on, own_of}
+use Rattle.ft_orb.specs.Parking.{AreParked, AsksLate, CanSettle, DeclinesLate, EndsLate, FeedsLate, IsDueLate, IsSettled, Parks, RepeatsLate, RepliesLate, ResumesLate, Settings, Stays, StopsLate, WithdrawsLate, by_number, goes_on, numbering, parked_at, parked_in, parked_count, parked_of, places_of, places_of_one, put_at, still, told_in, told_of as outcome_of, waiter_of, waits_on, own_of}
 use Rattle.ft_orb.specs.Requests.{Call, Wanted, Terms, asked_at}
 use Rattle.ft_orb.specs.Standing.{note_of}
 use Rattle.ft_orb.specs.Table.{Table, forgotten, keyed_step, performing_step, step_by_field, table_after, table_step}
@@ -49,7 +50,7 @@ use Rattle.ft_orb.proofs.Declined.{pasts-stand}
 use Rattle.ft_orb.proofs.Folded.{table_after-append}
 use Rattle.ft_orb.proofs.Headline.{past_stands_by}
 use Rattle.ft_orb.proofs.Late.{below-past, links-go, tally-is}
-use Rattle.ft_orb.proofs.Ledgers.{answered-are-known, calls-are-taken, declined-are-known, refused-are-known, runs-join, theirs-later, told-are-known, told-once, twice}
+use Rattle.ft_orb.proofs.Ledgers.{answered-are-known, calls-are-taken, settled-unkept-are-known, answered-unkept-are-known, runs-join, theirs-later, told-are-known, told-once, twice}
 use Rattle.ft_orb.proofs.Acts.{asks-acts, one-question, same-front}
 use Rattle.ft_orb.proofs.Placed.{all-within, came-within, count-same, nobody-under}
 use Rattle.ft_orb.proofs.Numbers.{AreBelow, after-below, all-filter}
@@ -468,44 +469,46 @@ module _ {C : Type 0} (offers : C → Offer) (s : Settings) where
     },
   )
 
-  -- It is declined, and that is told.
-  pub declines-deed : (g : Ledger) (old new : Engine C) (x : Awaiting g old) (name : SystemName) (minor : ℕ) (before out : List ℕ) → before ≡ []
-      → DeclinesLate offers s g.held g.calls g.past g.waiting x.a.moment x.a.octets x.a.written x.a.request (not_now name minor) new before out → AreParked old new → asks_in new ≡ asks_in old
-      → (c : ℕ) → c ≡ x.a.request.connection → IsDone offers s g (code.Decline name minor) None (record { connection = c; octets = out; note = Done } ∷ []) new
-  declines-deed g old new x name minor before out none y are asks c at =
+  -- An outcome is told, and nothing is kept.
+  pub tells-deed : (g : Ledger) (old new : Engine C) (x : Awaiting g old) (outcome : Performed) → IsRenderable outcome → (before out : List ℕ) → before ≡ []
+      → DeclinesLate offers s g.held g.calls g.past g.waiting x.a.moment x.a.octets x.a.written x.a.request outcome new before out → AreParked old new → asks_in new ≡ asks_in old
+      → (c : ℕ) → c ≡ x.a.request.connection → (told : CodeDeed) → IsOf told (AnsweredUnkept x.a outcome out) → IsDone offers s g told None (record { connection = c; octets = out; note = Done } ∷ []) new
+  tells-deed g old new x outcome fine before out none y are asks c at told of =
       let wrote : out ≡ y.more = y.appended ∙ ap (λ (l : List ℕ). l ++ y.more) none in (
-        Declined x.a name minor out,
-        (refl, refl),
-        (x.is, subst (λ (l : List ℕ). Wrote s nothing_yet (put_at (length g.calls) (known (not_now name minor)) g.held) g.past (piece_of x.a) (x.a.written ++ l) Done) (sym wrote) y.writes, y.stays.rests.stands.table.state),
+        AnsweredUnkept x.a outcome out,
+        of,
+        (x.is, subst (λ (l : List ℕ). Wrote s nothing_yet (put_at (length g.calls) (known outcome) g.held) g.past (piece_of x.a) (x.a.written ++ l) Done) (sym wrote) y.writes, y.stays.rests.stands.table.state, fine),
         ap (λ (k : ℕ). record { connection = k; octets = out; note = Done } ∷ []) (sym at),
         refl,
         record { stands = y.stays; nobody = λ n is. still-none (Withdrew (length g.calls) ∷ piece_of x.a ∷ g.past) g.waiting n (x.nobody n is); shows = shows-on g.asked g.there old new x.shows are asks },
       )
 
   -- .. or given up, where memory is short
-  pub declines-as : (g : Ledger) (old new : Engine C) (x : Awaiting g old) (name : SystemName) (minor handled : ℕ) (before out : List ℕ) → before ≡ [] → {A P Q D N : Type 0} (r : Result A ServeError)
-      → OnOk r P → (P → DeclinesLate offers s g.held g.calls g.past g.waiting x.a.moment x.a.octets x.a.written x.a.request (not_now name minor) new before out)
+  pub tells-as : (g : Ledger) (old new : Engine C) (x : Awaiting g old) (outcome : Performed) → IsRenderable outcome → (handled : ℕ) (before out : List ℕ) → before ≡ [] → {A P Q D N : Type 0} (r : Result A ServeError)
+      → OnOk r P → (P → DeclinesLate offers s g.held g.calls g.past g.waiting x.a.moment x.a.octets x.a.written x.a.request outcome new before out)
       → OnErr r Q → (Q → ResumesLate offers s g.held g.calls g.past g.waiting x.a.request.connection x.a.moment x.a.octets x.a.written (Memory handled handled) new [] [])
-      → OnErr r D → (D → 0 < length (reply_to (not_now name minor) (waiter_of x.a.request.connection x.asks.asks.question))) → OnErr r N → (N → handled + 1 ≡ length (completed s.limits g.past (piece_of x.a)))
+      → OnErr r D → (D → 0 < length (reply_to outcome (waiter_of x.a.request.connection x.asks.asks.question))) → OnErr r N → (N → handled + 1 ≡ length (completed s.limits g.past (piece_of x.a)))
       → IfErr r (λ e. e ≡ serving.Memory handled handled) → OnErr r (out ≡ before) → AreParked old new → asks_in new ≡ asks_in old
-      → (c : ℕ) → c ≡ x.a.request.connection → IsDone offers s g (code.Decline name minor) None (record { connection = c; octets = out; note = note_of r } ∷ []) new
-  declines-as g old new x name minor handled before out none (Ok u) late declined given up due some counts count is kept are asks c at = declines-deed g old new x name minor before out none (declined late) are asks c at
-  declines-as g old new x name minor handled before out none {A} (Err e) late declined given up due some counts count is kept are asks c at =
-      let of = subst (λ (q : Question). 0 < length (reply_to (not_now name minor) (waiter_of x.a.request.connection q))) x.question (some due) in
-      let d = gives-up-deed g old new x handled (up given) are asks (count counts) c at (code.Decline name minor) of in
-      subst (λ (n : Note). IsDone offers s g (code.Decline name minor) None (record { connection = c; octets = out; note = n } ∷ []) new) (ap (λ (y : ServeError). note_of {A = A} (Err y)) (sym is))
-      (subst (λ (l : List ℕ). IsDone offers s g (code.Decline name minor) None (record { connection = c; octets = l; note = Memory handled handled } ∷ []) new) (sym (kept ∙ none)) d)
+      → (c : ℕ) → c ≡ x.a.request.connection → (told : CodeDeed) → IsOf told (AnsweredUnkept x.a outcome out) → (0 < length (reply_to outcome (waiter_of x.a.request.connection x.a.question)) → IsOf told (GivenUp x.a handled))
+      → IsDone offers s g told None (record { connection = c; octets = out; note = note_of r } ∷ []) new
+  tells-as g old new x outcome fine handled before out none (Ok u) late tells given up due some counts count is kept are asks c at told of gives = tells-deed g old new x outcome fine before out none (tells late) are asks c at told of
+  tells-as g old new x outcome fine handled before out none {A} (Err e) late tells given up due some counts count is kept are asks c at told of gives =
+      let some_due = subst (λ (q : Question). 0 < length (reply_to outcome (waiter_of x.a.request.connection q))) x.question (some due) in
+      let d = gives-up-deed g old new x handled (up given) are asks (count counts) c at told (gives some_due) in
+      subst (λ (n : Note). IsDone offers s g told None (record { connection = c; octets = out; note = n } ∷ []) new) (ap (λ (y : ServeError). note_of {A = A} (Err y)) (sym is))
+      (subst (λ (l : List ℕ). IsDone offers s g told None (record { connection = c; octets = l; note = Memory handled handled } ∷ []) new) (sym (kept ∙ none)) d)
 
-  pub withdraws-deed : (g : Ledger) (old mid new : Engine C) → Resting g old → (n : ℕ) (name : SystemName) (minor : ℕ) (before out : List Written) (y : WithdrawsLate offers s g.held g.calls g.past g.waiting n mid)
-      → (t : IsTold offers s (without_call y.i g) n (not_now name minor) new before out) → asks_in new ≡ asks_in old → CanSettle (offers old.offering.catalogue) (parked_at old n) (not_now name minor)
-      → parked_in new n ≡ None → ((q : ℕ) → (q == n) ≡ false → (parked_in new q ≡ parked_in old q) × (told_in new q ≡ told_in old q)) → IsDone offers s g (code.Withdraw n name minor) None (map noted t.written) new
-  withdraws-deed g old mid new r n name minor before out y t asks can gone others =
+  pub tells-parked : (g : Ledger) (old mid new : Engine C) → Resting g old → (n : ℕ) (outcome : Performed) (before out : List Written) (y : WithdrawsLate offers s g.held g.calls g.past g.waiting n mid)
+      → (t : IsTold offers s (without_call y.i g) n outcome new before out) → asks_in new ≡ asks_in old → CanSettle (offers old.offering.catalogue) (parked_at old n) outcome
+      → parked_in new n ≡ None → ((q : ℕ) → (q == n) ≡ false → (parked_in new q ≡ parked_in old q) × (told_in new q ≡ told_in old q)) → (told : CodeDeed) → IsOf told (SettledUnkept y.i n outcome t.told)
+      → IsDone offers s g told None (map noted t.written) new
+  tells-parked g old mid new r n outcome before out y t asks can gone others told of =
       let one : t.i ≡ y.i = y.stays.parks.once t.i y.i n t.taken y.taken t.was y.was in
-      let stays : Stays offers s (put_at y.i (known (not_now name minor)) g.held) g.calls new (told_all s n (without_call y.i g) t.told).past (told_all s n (without_call y.i g) t.told).waiting =
-      subst (λ (k : ℕ). Stays offers s (put_at k (known (not_now name minor)) g.held) g.calls new (told_all s n (without_call y.i g) t.told).past (told_all s n (without_call y.i g) t.told).waiting) one t.stays in (
-        Withdrawn y.i n name minor t.told,
-        (refl, refl, refl),
-        (r.none, y.taken, y.was, t.are_told, t.none, stays.rests.stands.table.state, fits-there g old r n (not_now name minor) can),
+      let stays : Stays offers s (put_at y.i (known outcome) g.held) g.calls new (told_all s n (without_call y.i g) t.told).past (told_all s n (without_call y.i g) t.told).waiting =
+      subst (λ (k : ℕ). Stays offers s (put_at k (known outcome) g.held) g.calls new (told_all s n (without_call y.i g) t.told).past (told_all s n (without_call y.i g) t.told).waiting) one t.stays in (
+        SettledUnkept y.i n outcome t.told,
+        of,
+        (r.none, y.taken, y.was, t.are_told, t.none, stays.rests.stands.table.state, fits-there g old r n outcome can),
         t.notes,
         refl,
         record {
@@ -677,10 +680,10 @@ module _ (s : Settings) where
         subst (λ (l : List Deed). (after_deeds s (opening held) l).held i ≡ known outcome) (sym is) (told-are-known s (opening held) xs ys i n outcome told (subst (λ (l : List Deed). Runs s (opening held) l) is runs));
     answered = λ xs ys a outcome written note is.
         subst (λ (l : List Deed). (after_deeds s (opening held) l).held (length (after_deeds s (opening held) xs).calls) ≡ known outcome) (sym is) (answered-are-known s (opening held) xs ys a outcome written note (subst (λ (l : List Deed). Runs s (opening held) l) is runs));
-    declined = λ xs ys a name minor written is.
-        subst (λ (l : List Deed). (after_deeds s (opening held) l).held (length (after_deeds s (opening held) xs).calls) ≡ known (not_now name minor)) (sym is) (refused-are-known s (opening held) xs ys a name minor written (subst (λ (l : List Deed). Runs s (opening held) l) is runs));
-    withdrawn = λ xs ys i n name minor told is.
-        subst (λ (l : List Deed). (after_deeds s (opening held) l).held i ≡ known (not_now name minor)) (sym is) (declined-are-known s (opening held) xs ys i n name minor told (subst (λ (l : List Deed). Runs s (opening held) l) is runs));
+    answered_unkept = λ xs ys a outcome written is.
+        subst (λ (l : List Deed). (after_deeds s (opening held) l).held (length (after_deeds s (opening held) xs).calls) ≡ known outcome) (sym is) (answered-unkept-are-known s (opening held) xs ys a outcome written (subst (λ (l : List Deed). Runs s (opening held) l) is runs));
+    settled_unkept = λ xs ys i n outcome told is.
+        subst (λ (l : List Deed). (after_deeds s (opening held) l).held i ≡ known outcome) (sym is) (settled-unkept-are-known s (opening held) xs ys i n outcome told (subst (λ (l : List Deed). Runs s (opening held) l) is runs));
     once = calls-once (after_deeds s (opening held) ds) (calls-are-taken s (opening held) ds runs refl);
     now = calls-now (after_deeds s (opening held) ds) (calls-are-taken s (opening held) ds runs refl);
     stand = let g = after_deeds s (opening held) ds in calls-are-taken s (opening held) ds runs refl ∙ ((pasts-stand s).table g.held g.past).1.state;

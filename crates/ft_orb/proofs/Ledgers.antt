@@ -11,13 +11,13 @@ use Rattle.ft_log.specs.Performed.{Performed}
 use Rattle.ft_orb.specs.declared.events.Note.{Note}
 use Rattle.ft_orb.specs.declared.events.Note.TheVariants.{Done, Memory, Refused}
 use Rattle.ft_orb.specs.declared.parked.Waiter.{Waiter}
-use Rattle.ft_orb.specs.Deeds.{AnsweredAreKnown, AreApart, AreTaken, AreTold, Answered, CallsAreTaken, CallsGrow, Declined, DeclinedAreKnown, Deed, DeedsAreRuns, GivenUp, Happened, IsDeed, IsLeftOf, IsUnawaited, Joined, JoinedAreNoCalls, KnownGrows, Ledger, Missed, Parked, Reached, RefusedAreKnown, Runs, RunsJoin, RunsKeepAll, Settled, SettledAreTheirs, Stopped, Told, ToldAreKnown, ToldOnce, Withdrawn, WithdrawnAreTheirs, WrittenNow, WrittenOnce, after_deed, after_deeds, came_to, declines, part_of, piece_of, reached, rest_of, settles, told_all, told_of, told_one, without_call}
+use Rattle.ft_orb.specs.Deeds.{Answered, AnsweredAreKnown, AnsweredUnkept, AreApart, AreTaken, AreTold, CallsAreTaken, CallsGrow, SettledUnkeptAreKnown, Deed, DeedsAreRuns, GivenUp, Happened, IsDeed, IsLeftOf, IsUnawaited, Joined, JoinedAreNoCalls, KnownGrows, Ledger, Missed, Parked, Reached, AnsweredUnkeptAreKnown, Runs, RunsJoin, RunsKeepAll, Settled, SettledAreTheirs, SettledUnkept, Stopped, Told, ToldAreKnown, ToldOnce, UnkeptAreTheirs, WrittenNow, WrittenOnce, after_deed, after_deeds, came_to, is_unkept, part_of, piece_of, reached, rest_of, settles, told_all, told_of, told_one, without_call}
 use Rattle.ft_orb.specs.ExactlyOnce.{Arrival}
 use Rattle.ft_orb.specs.History as history
 use Rattle.ft_orb.specs.History.{Close, Event, Gone, KeepsAll, Line, Lost, Piece, Shut, Up, Withdrew, arrivals_on, does_count, line, Changed, origin}
 use Rattle.ft_orb.specs.Outputs.{after, is_going, is_gone}
 use Rattle.ft_orb.specs.Parked.{is_wished, on_going}
-use Rattle.ft_orb.specs.Parking.{Settings, goes_on, not_now, numbering, put_at, waiter_of, own_of}
+use Rattle.ft_orb.specs.Parking.{Settings, goes_on, numbering, put_at, waiter_of, own_of}
 use Rattle.ft_orb.specs.Requests.{Call, Wanted, Origin}
 use Rattle.ft_orb.proofs.Books.{book_by, kept-folded}
 use Rattle.ft_orb.proofs.Headline.{writes_agree_by}
@@ -213,8 +213,8 @@ module _ (s : Settings) (stay : EndingsStay meaning_in) where
   later-deed g (Parked a own) = later-event g.past (piece_of a)
   later-deed g (GivenUp a handled) = later-after g.past (piece_of a) (Memory handled handled)
   later-deed g (Settled i n outcome told) = later-told n g told
-  later-deed g (Declined a name minor written) = later-trans s.limits g.past (piece_of a ∷ g.past) (Withdrew (length g.calls) ∷ piece_of a ∷ g.past) (later-event g.past (piece_of a)) (later-event (piece_of a ∷ g.past) (Withdrew (length g.calls)))
-  later-deed g (Withdrawn i n name minor told) = later-trans s.limits g.past (Withdrew i ∷ g.past) (told_all s n (without_call i g) told).past (later-event g.past (Withdrew i)) (later-told n (without_call i g) told)
+  later-deed g (AnsweredUnkept a outcome written) = later-trans s.limits g.past (piece_of a ∷ g.past) (Withdrew (length g.calls) ∷ piece_of a ∷ g.past) (later-event g.past (piece_of a)) (later-event (piece_of a ∷ g.past) (Withdrew (length g.calls)))
+  later-deed g (SettledUnkept i n outcome told) = later-trans s.limits g.past (Withdrew i ∷ g.past) (told_all s n (without_call i g) told).past (later-event g.past (Withdrew i)) (later-told n (without_call i g) told)
 
   opened-deed : (g : Ledger) (d : Deed) → Opened g → Opened (after_deed s g d)
   opened-deed g (Happened e written note) h n = opens-going s.limits (after s.limits g.past e note) (g.waiting n)
@@ -224,8 +224,8 @@ module _ (s : Settings) (stay : EndingsStay meaning_in) where
   opened-deed g (Parked a own) h n = opens-going s.limits (piece_of a ∷ g.past) (put_at a.request.number own g.waiting n)
   opened-deed g (GivenUp a handled) h n = opens-going s.limits (after s.limits g.past (piece_of a) (Memory handled handled)) (g.waiting n)
   opened-deed g (Settled i m outcome told) h n = told-opened m g told h n
-  opened-deed g (Declined a name minor written) h n = opens-going s.limits (Withdrew (length g.calls) ∷ piece_of a ∷ g.past) (g.waiting n)
-  opened-deed g (Withdrawn i m name minor told) h n = told-opened m (without_call i g) told h n
+  opened-deed g (AnsweredUnkept a outcome written) h n = opens-going s.limits (Withdrew (length g.calls) ∷ piece_of a ∷ g.past) (g.waiting n)
+  opened-deed g (SettledUnkept i m outcome told) h n = told-opened m (without_call i g) told h n
 
   -- a connection on which something arrived is there
   arrived-there : (c : Origin) (now : ℕ) (octets : List ℕ) (front : List (Arrival Wanted)) (last : Arrival Wanted) (l : Line) → arrivals_on s.limits c now l octets ≡ front ++ last ∷ [] → is_gone l ≡ false
@@ -275,16 +275,16 @@ module _ (s : Settings) (stay : EndingsStay meaning_in) where
       by : (b : Bool) → (n == m) ≡ b → IsLeftOf (goes_on s.limits end) (g.waiting n) (cond b (reached told) [] ++ (told_all s m g told).waiting n)
       by true is = subst (λ (k : ℕ). IsLeftOf (goes_on s.limits end) (g.waiting k) (reached told ++ (told_all s m g told).waiting k)) (sym (eqb-true n m is)) (told-here m outcome end g told o h.3 x)
       by false is = told-else m outcome end n is g told o x
-  deed-left g (Declined a name minor written) n end h o x =
-      rested-left g (Withdrew (length g.calls) ∷ piece_of a ∷ g.past) end n o (later-deed g (Declined a name minor written)) x
-  deed-left g (Withdrawn i m name minor told) n end h o x =
-      subst (λ (l : List Waiter). IsLeftOf (goes_on s.limits end) l (told_of n (Withdrawn i m name minor told) ++ (told_all s m (without_call i g) told).waiting n)) (sym (append-nil (g.waiting n))) (by (n == m) refl)
+  deed-left g (AnsweredUnkept a outcome written) n end h o x =
+      rested-left g (Withdrew (length g.calls) ∷ piece_of a ∷ g.past) end n o (later-deed g (AnsweredUnkept a outcome written)) x
+  deed-left g (SettledUnkept i m outcome told) n end h o x =
+      subst (λ (l : List Waiter). IsLeftOf (goes_on s.limits end) l (told_of n (SettledUnkept i m outcome told) ++ (told_all s m (without_call i g) told).waiting n)) (sym (append-nil (g.waiting n))) (by (n == m) refl)
     where
       by : (b : Bool) → (n == m) ≡ b → IsLeftOf (goes_on s.limits end) (g.waiting n) (cond b (reached told) [] ++ (told_all s m (without_call i g) told).waiting n)
       by true is =
           subst (λ (k : ℕ). IsLeftOf (goes_on s.limits end) (g.waiting k) (reached told ++ (told_all s m (without_call i g) told).waiting k)) (sym (eqb-true n m is))
-          (told-here m (not_now name minor) end (without_call i g) told o h.3 x)
-      by false is = told-else m (not_now name minor) end n is (without_call i g) told o x
+          (told-here m outcome end (without_call i g) told o h.3 x)
+      by false is = told-else m outcome end n is (without_call i g) told o x
 
   -- Runs.
 
@@ -331,8 +331,8 @@ module _ (s : Settings) where
   calls-deed g (Parked a own) = (a.request.call ∷ [], refl)
   calls-deed g (GivenUp a handled) = ([], sym (append-nil g.calls))
   calls-deed g (Settled i n outcome told) = ([], sym (append-nil g.calls))
-  calls-deed g (Declined a name minor written) = (a.request.call ∷ [], refl)
-  calls-deed g (Withdrawn i n name minor told) = ([], sym (append-nil g.calls))
+  calls-deed g (AnsweredUnkept a outcome written) = (a.request.call ∷ [], refl)
+  calls-deed g (SettledUnkept i n outcome told) = ([], sym (append-nil g.calls))
 
   pub calls-grow : CallsGrow s
   calls-grow g [] h = ([], sym (append-nil g.calls))
@@ -349,8 +349,8 @@ module _ (s : Settings) where
   taken-deed g (Parked a own) h was = h.4
   taken-deed g (GivenUp a handled) h was = h.2
   taken-deed g (Settled i n outcome told) h was = h.5
-  taken-deed g (Declined a name minor written) h was = h.2
-  taken-deed g (Withdrawn i n name minor told) h was = h.5
+  taken-deed g (AnsweredUnkept a outcome written) h was = h.2
+  taken-deed g (SettledUnkept i n outcome told) h was = h.5
 
   pub calls-are-taken : CallsAreTaken s
   calls-are-taken g [] h was = was
@@ -365,9 +365,9 @@ module _ (s : Settings) where
   known-deed g (GivenUp a handled) i o h less is = is
   known-deed g (Settled j n outcome told) i o h less is =
       put-else j (known outcome) g.held i (λ same. let both : parked n ≡ known o = sym h.2 ∙ ap g.held (sym same) ∙ is in absurd cc) ∙ is
-  known-deed g (Declined a name minor written) i o h less is = put-else (length g.calls) (known (not_now name minor)) g.held i (λ same. absurd (omega (arith, same, less))) ∙ is
-  known-deed g (Withdrawn j n name minor told) i o h less is =
-      put-else j (known (not_now name minor)) g.held i (λ same. let both : parked n ≡ known o = sym h.2 ∙ ap g.held (sym same) ∙ is in absurd cc) ∙ is
+  known-deed g (AnsweredUnkept a outcome written) i o h less is = put-else (length g.calls) (known outcome) g.held i (λ same. absurd (omega (arith, same, less))) ∙ is
+  known-deed g (SettledUnkept j n outcome told) i o h less is =
+      put-else j (known outcome) g.held i (λ same. let both : parked n ≡ known o = sym h.2 ∙ ap g.held (sym same) ∙ is in absurd cc) ∙ is
 
   less-deed : (g : Ledger) (d : Deed) (i : ℕ) → i < length g.calls → i < length (after_deed s g d).calls
   less-deed g d i less =
@@ -384,9 +384,9 @@ module _ (s : Settings) where
   told-are-known g [] ys i n o told h = known-grows (after_deed s g (Settled i n o told)) ys i o h.1 h.0.1 (put-here i (known o) g.held)
   told-are-known g (x ∷ xs) ys i n o told h = told-are-known (after_deed s g x) xs ys i n o told h.1
 
-  pub declined-are-known : DeclinedAreKnown s
-  declined-are-known g [] ys i n name minor told h = known-grows (after_deed s g (Withdrawn i n name minor told)) ys i (not_now name minor) h.1 h.0.1 (put-here i (known (not_now name minor)) g.held)
-  declined-are-known g (x ∷ xs) ys i n name minor told h = declined-are-known (after_deed s g x) xs ys i n name minor told h.1
+  pub settled-unkept-are-known : SettledUnkeptAreKnown s
+  settled-unkept-are-known g [] ys i n outcome told h = known-grows (after_deed s g (SettledUnkept i n outcome told)) ys i outcome h.1 h.0.1 (put-here i (known outcome) g.held)
+  settled-unkept-are-known g (x ∷ xs) ys i n outcome told h = settled-unkept-are-known (after_deed s g x) xs ys i n outcome told h.1
 
   pub answered-are-known : AnsweredAreKnown s
   answered-are-known g [] ys a o written note h =
@@ -394,13 +394,13 @@ module _ (s : Settings) where
       known-grows (after_deed s g (Answered a o written note)) ys (length g.calls) o h.1 (omega (arith, size)) (put-here (length g.calls) (known o) g.held)
   answered-are-known g (x ∷ xs) ys a o written note h = answered-are-known (after_deed s g x) xs ys a o written note h.1
 
-  pub refused-are-known : RefusedAreKnown s
-  refused-are-known g [] ys a name minor written h =
+  pub answered-unkept-are-known : AnsweredUnkeptAreKnown s
+  answered-unkept-are-known g [] ys a outcome written h =
       let size = length-append g.calls (a.request.call ∷ []) in
-      known-grows (after_deed s g (Declined a name minor written)) ys (length g.calls) (not_now name minor) h.1 (omega (arith, size)) (put-here (length g.calls) (known (not_now name minor)) g.held)
-  refused-are-known g (x ∷ xs) ys a name minor written h = refused-are-known (after_deed s g x) xs ys a name minor written h.1
+      known-grows (after_deed s g (AnsweredUnkept a outcome written)) ys (length g.calls) outcome h.1 (omega (arith, size)) (put-here (length g.calls) (known outcome) g.held)
+  answered-unkept-are-known g (x ∷ xs) ys a outcome written h = answered-unkept-are-known (after_deed s g x) xs ys a outcome written h.1
 
-  -- Where none is declined, none is withdrawn.
+  -- Where something is kept of each, none is withdrawn.
 
   keeps-event : (past : List Event) (e : Event) (waiting : ℕ → List Waiter) → IsUnawaited e waiting → KeepsAll past → KeepsAll (e ∷ past)
   keeps-event past (history.Opened c) waiting free kept = kept
@@ -425,7 +425,7 @@ module _ (s : Settings) where
   keeps-told n g (Reached w ∷ told) kept = keeps-told n (told_one s n g (Reached w)) told kept
   keeps-told n g (Missed w ∷ told) kept = keeps-told n (told_one s n g (Missed w)) told kept
 
-  keeps-deed : (g : Ledger) (d : Deed) → IsDeed s g d → declines d ≡ false → KeepsAll g.past → KeepsAll (after_deed s g d).past
+  keeps-deed : (g : Ledger) (d : Deed) → IsDeed s g d → is_unkept d ≡ false → KeepsAll g.past → KeepsAll (after_deed s g d).past
   keeps-deed g (Happened e written note) h none kept = keeps-after g.past e note g.waiting h.3 kept
   keeps-deed g (Stopped p written w q) h none kept = kept
   keeps-deed g (Joined p written n joined) h none kept = kept
@@ -433,13 +433,13 @@ module _ (s : Settings) where
   keeps-deed g (Parked a own) h none kept = kept
   keeps-deed g (GivenUp a handled) h none kept = kept
   keeps-deed g (Settled i n outcome told) h none kept = keeps-told n g told kept
-  keeps-deed g (Declined a name minor written) h none kept = absurd cc
-  keeps-deed g (Withdrawn i n name minor told) h none kept = absurd cc
+  keeps-deed g (AnsweredUnkept a outcome written) h none kept = absurd cc
+  keeps-deed g (SettledUnkept i n outcome told) h none kept = absurd cc
 
   pub runs-keep-all : RunsKeepAll s
   runs-keep-all g [] h kept none = kept
   runs-keep-all g (d ∷ ds) h kept none =
-      let parts = or_parts (declines d) (list_any declines ds) none in
+      let parts = or_parts (is_unkept d) (list_any is_unkept ds) none in
       runs-keep-all (after_deed s g d) ds h.1 (keeps-deed g d h.0 parts.0 kept) parts.1
 
   pub written-now : WrittenNow s
@@ -489,8 +489,8 @@ module _ (s : Settings) where
       apart-put g a.request.call (parked a.request.number) apart (λ n is i less held. h.1.call i less (held ∙ sym is))
   apart-deed g (GivenUp a handled) h apart = apart
   apart-deed g (Settled k m outcome told) h apart = λ i j n low high one two. apart i j n low high (before-known g k outcome i n one) (before-known g k outcome j n two)
-  apart-deed g (Declined a name minor written) h apart = apart-put g a.request.call (known (not_now name minor)) apart (λ n is. absurd cc)
-  apart-deed g (Withdrawn k m name minor told) h apart = λ i j n low high one two. apart i j n low high (before-known g k (not_now name minor) i n one) (before-known g k (not_now name minor) j n two)
+  apart-deed g (AnsweredUnkept a outcome written) h apart = apart-put g a.request.call (known outcome) apart (λ n is. absurd cc)
+  apart-deed g (SettledUnkept k m outcome told) h apart = λ i j n low high one two. apart i j n low high (before-known g k outcome i n one) (before-known g k outcome j n two)
 
   -- a call that is parked under another number is another
   other-number : (g : Ledger) (k m i n : ℕ) → (n == m) ≡ false → g.held i ≡ parked n → g.held k ≡ parked m → i ≡ k → ⊥
@@ -510,8 +510,8 @@ module _ (s : Settings) where
   parked-deed g (Parked a own) i n h other less is = put-else (length g.calls) (parked a.request.number) g.held i (λ same. absurd (omega (arith, same, less))) ∙ is
   parked-deed g (GivenUp a handled) i n h other less is = is
   parked-deed g (Settled k m outcome told) i n h other less is = put-else k (known outcome) g.held i (λ same. other-number g k m i n other is h.2 same) ∙ is
-  parked-deed g (Declined a name minor written) i n h other less is = put-else (length g.calls) (known (not_now name minor)) g.held i (λ same. absurd (omega (arith, same, less))) ∙ is
-  parked-deed g (Withdrawn k m name minor told) i n h other less is = put-else k (known (not_now name minor)) g.held i (λ same. other-number g k m i n other is h.2 same) ∙ is
+  parked-deed g (AnsweredUnkept a outcome written) i n h other less is = put-else (length g.calls) (known outcome) g.held i (λ same. absurd (omega (arith, same, less))) ∙ is
+  parked-deed g (SettledUnkept k m outcome told) i n h other less is = put-else k (known outcome) g.held i (λ same. other-number g k m i n other is h.2 same) ∙ is
 
   pub settled-are-theirs : SettledAreTheirs s
   settled-are-theirs g [] ys i j n o told apart h less is none = apart i j n less h.0.1 is h.0.2
@@ -519,11 +519,11 @@ module _ (s : Settings) where
       let parts = or_parts (settles n d) (list_any (settles n) ds) none in
       settled-are-theirs (after_deed s g d) ds ys i j n o told (apart-deed g d h.0 apart) h.1 (less-deed g d i less) (parked-deed g d i n h.0 parts.0 less is) parts.1
 
-  pub withdrawn-are-theirs : WithdrawnAreTheirs s
-  withdrawn-are-theirs g [] ys i j n name minor told apart h less is none = apart i j n less h.0.1 is h.0.2
-  withdrawn-are-theirs g (d ∷ ds) ys i j n name minor told apart h less is none =
+  pub unkept-are-theirs : UnkeptAreTheirs s
+  unkept-are-theirs g [] ys i j n outcome told apart h less is none = apart i j n less h.0.1 is h.0.2
+  unkept-are-theirs g (d ∷ ds) ys i j n outcome told apart h less is none =
       let parts = or_parts (settles n d) (list_any (settles n) ds) none in
-      withdrawn-are-theirs (after_deed s g d) ds ys i j n name minor told (apart-deed g d h.0 apart) h.1 (less-deed g d i less) (parked-deed g d i n h.0 parts.0 less is) parts.1
+      unkept-are-theirs (after_deed s g d) ds ys i j n outcome told (apart-deed g d h.0 apart) h.1 (less-deed g d i less) (parked-deed g d i n h.0 parts.0 less is) parts.1
 
   -- .. from any deed of a run on
   pub theirs-later : (g : Ledger) (xs ms ys : List Deed) (i j n : ℕ) (outcome : Performed) (told : List Told) → AreApart g → Runs s g (xs ++ (ms ++ Settled j n outcome told ∷ ys))

@@ -5,7 +5,6 @@ use Rattle.std.specs.Option.{option_map_or}
 use Rattle.giop_link.specs.Hearing.{Question}
 use Rattle.ft_log.specs.Holding.{Holding, known, parked}
 use Rattle.ft_log.specs.Performed.{Performed}
-use Rattle.ft_log.specs.declared.system_exception.SystemName.{SystemName}
 use Rattle.ft_objects.specs.Interfaces.{Interface, IsAnswerOf}
 use Rattle.ft_objects.specs.Replies.{IsRenderable}
 use Rattle.ft_orb.specs.declared.events.Note.{Note}
@@ -18,7 +17,7 @@ use Rattle.ft_orb.specs.History.{Changed, Close, Event, KeepsAll, Lost, Opened, 
 use Rattle.ft_orb.specs.Outputs.{Noted, WritesBy, after, output_cut}
 use Rattle.ft_orb.specs.Owners.{owned_law, owned_now, owned_rules, owned_says, owned_table}
 use Rattle.ft_orb.specs.Parked.{is_wished, on_going}
-use Rattle.ft_orb.specs.Parking.{Settings, by_number, goes_on, not_now, numbering, put_at, still, unless_placed, waiter_of, own_of}
+use Rattle.ft_orb.specs.Parking.{Settings, by_number, goes_on, numbering, put_at, still, unless_placed, waiter_of, own_of}
 use Rattle.ft_orb.specs.Requests.{Call, Wanted, asked_at, asking}
 use Rattle.ft_orb.specs.Table.{table_after, table_step}
 use Rattle.ft_orb.specs.Tellings.{Later, nothing_yet, reply_by}
@@ -62,9 +61,9 @@ pub data Told : Type 0 where
   Missed : Waiter → Told
 
 -- Something happened, to its end; a part of a piece was taken, up to a request that waits now, or to a repeat of one that is parked
--- under a number, which these joined; the request that waits was answered, or parked, and these wait for it, or it was given up, or
--- declined; or call i, which was parked under number n, has its outcome, and these were told, or it was declined, and these were told
--- that.
+-- under a number, which these joined; the request that waits was answered, or parked, and these wait for it, or it was given up; or call
+-- i, which was parked under number n, has its outcome, and these were told. Unkept: an outcome was told, at once or to these, and nothing
+-- is kept of the call. A decline is the case of a system exception with COMPLETED_NO.
 pub data Deed : Type 0 where
   Happened : Event → (written : List ℕ) → Note → Deed
   Stopped : Part → (written : List ℕ) → Awaited → Question → Deed
@@ -73,8 +72,8 @@ pub data Deed : Type 0 where
   Parked : Asking → List Waiter → Deed
   GivenUp : Asking → (handled : ℕ) → Deed
   Settled : (i n : ℕ) → Performed → List Told → Deed
-  Declined : Asking → SystemName → (minor : ℕ) → (written : List ℕ) → Deed
-  Withdrawn : (i n : ℕ) → SystemName → (minor : ℕ) → List Told → Deed
+  AnsweredUnkept : Asking → Performed → (written : List ℕ) → Deed
+  SettledUnkept : (i n : ℕ) → Performed → List Told → Deed
 
 -- what is served changes: nothing is written
 abbrev pub changing : Deed
@@ -109,8 +108,8 @@ notes_of (Answered a outcome written note) = record { connection = a.request.con
 notes_of (Parked a own) = []
 notes_of (GivenUp a handled) = record { connection = a.request.connection; octets = []; note = Memory handled handled } ∷ []
 notes_of (Settled i n outcome told) = map (note_told outcome) told
-notes_of (Declined a name minor written) = record { connection = a.request.connection; octets = written; note = Done } ∷ []
-notes_of (Withdrawn i n name minor told) = map (note_told (not_now name minor)) told
+notes_of (AnsweredUnkept a outcome written) = record { connection = a.request.connection; octets = written; note = Done } ∷ []
+notes_of (SettledUnkept i n outcome told) = map (note_told outcome) told
 
 -- who came to wait under number n, and to whom a reply was made that waited under it
 abbrev pub came_to : ℕ → Deed → List Waiter
@@ -121,8 +120,8 @@ came_to n (Answered a outcome written note) = []
 came_to n (Parked a own) = if n == a.request.number then own else []
 came_to n (GivenUp a handled) = []
 came_to n (Settled i m outcome told) = []
-came_to n (Declined a name minor written) = []
-came_to n (Withdrawn i m name minor told) = []
+came_to n (AnsweredUnkept a outcome written) = []
+came_to n (SettledUnkept i m outcome told) = []
 
 abbrev pub reached : List Told → List Waiter
 reached [] = []
@@ -137,15 +136,15 @@ told_of n (Answered a outcome written note) = []
 told_of n (Parked a own) = []
 told_of n (GivenUp a handled) = []
 told_of n (Settled i m outcome told) = if n == m then reached told else []
-told_of n (Declined a name minor written) = []
-told_of n (Withdrawn i m name minor told) = if n == m then reached told else []
+told_of n (AnsweredUnkept a outcome written) = []
+told_of n (SettledUnkept i m outcome told) = if n == m then reached told else []
 
 -- how many of the first numbers have a request under them that passes a test
 abbrev pub count_under : (Awaited → Bool) → (ℕ → Option Awaited) → ℕ → ℕ
 count_under test there zero = 0
 count_under test there (suc n) = if option_map_or test (there n) false then count_under test there n + 1 else count_under test there n
 
--- where a connection is closed, nobody waits on it; and no call is withdrawn by itself: it is declined
+-- where a connection is closed, nobody waits on it; and no call is withdrawn by itself: its outcome is told
 abbrev pub IsUnawaited : Event → (ℕ → List Waiter) → Type 0
 IsUnawaited (Opened c) waiting = Unit {0}
 IsUnawaited (Piece c moment octets) waiting = Unit {0}
@@ -154,7 +153,7 @@ IsUnawaited (Lost c) waiting = Unit {0}
 IsUnawaited (Withdrew i) waiting = ⊥
 IsUnawaited Changed waiting = Unit {0}
 
--- something was settled, or declined, under number n
+-- something was settled under number n, kept or not
 abbrev pub settles : ℕ → Deed → Bool
 settles n (Happened e written note) = false
 settles n (Stopped p written w q) = false
@@ -163,20 +162,20 @@ settles n (Answered a outcome written note) = false
 settles n (Parked a own) = false
 settles n (GivenUp a handled) = false
 settles n (Settled i m outcome told) = n == m
-settles n (Declined a name minor written) = false
-settles n (Withdrawn i m name minor told) = n == m
+settles n (AnsweredUnkept a outcome written) = false
+settles n (SettledUnkept i m outcome told) = n == m
 
--- a call is declined in it
-abbrev pub declines : Deed → Bool
-declines (Happened e written note) = false
-declines (Stopped p written w q) = false
-declines (Joined p written n joined) = false
-declines (Answered a outcome written note) = false
-declines (Parked a own) = false
-declines (GivenUp a handled) = false
-declines (Settled i n outcome told) = false
-declines (Declined a name minor written) = true
-declines (Withdrawn i n name minor told) = true
+-- of a call an outcome is told in it, and nothing is kept
+abbrev pub is_unkept : Deed → Bool
+is_unkept (Happened e written note) = false
+is_unkept (Stopped p written w q) = false
+is_unkept (Joined p written n joined) = false
+is_unkept (Answered a outcome written note) = false
+is_unkept (Parked a own) = false
+is_unkept (GivenUp a handled) = false
+is_unkept (Settled i n outcome told) = false
+is_unkept (AnsweredUnkept a outcome written) = true
+is_unkept (SettledUnkept i n outcome told) = true
 
 -- the ledger once nothing is kept for call i any more
 abbrev pub without_call : (i : ℕ) → Ledger → Ledger
@@ -222,8 +221,8 @@ module _ (s : Settings) where
   after_deed g (Answered a outcome written note) = rested g (put_at (length g.calls) (known outcome) g.held) (g.calls ++ a.request.call ∷ []) (after s.limits g.past (piece_of a) note) g.waiting
   after_deed g (Parked a own) = rested (record g { there = put_at a.request.number (Some a.request) g.there }) (put_at (length g.calls) (parked a.request.number) g.held) (g.calls ++ a.request.call ∷ []) (piece_of a ∷ g.past) (put_at a.request.number own g.waiting)
   after_deed g (GivenUp a handled) = rested g g.held g.calls (after s.limits g.past (piece_of a) (Memory handled handled)) g.waiting
-  after_deed g (Declined a name minor written) = rested g (put_at (length g.calls) (known (not_now name minor)) g.held) (g.calls ++ a.request.call ∷ []) (Withdrew (length g.calls) ∷ piece_of a ∷ g.past) g.waiting
-  after_deed g (Withdrawn i n name minor told) = record (told_all n (without_call i g) told) { held = put_at i (known (not_now name minor)) g.held; calls = g.calls; asking = None; asked = g.asked; there = put_at n None g.there }
+  after_deed g (AnsweredUnkept a outcome written) = rested g (put_at (length g.calls) (known outcome) g.held) (g.calls ++ a.request.call ∷ []) (Withdrew (length g.calls) ∷ piece_of a ∷ g.past) g.waiting
+  after_deed g (SettledUnkept i n outcome told) = record (told_all n (without_call i g) told) { held = put_at i (known outcome) g.held; calls = g.calls; asking = None; asked = g.asked; there = put_at n None g.there }
   after_deed g (Settled i n outcome told) = record (told_all n g told) { held = put_at i (known outcome) g.held; calls = g.calls; asking = None; asked = g.asked; there = put_at n None g.there }
 
   abbrev pub after_deeds : Ledger → List Deed → Ledger
@@ -302,9 +301,10 @@ module _ (s : Settings) where
       × Wrote nothing_yet (put_at (length g.calls) (parked a.request.number) g.held) g.past (piece_of a) a.written Done × AreTaken (after_deed g (Parked a own)) × HasPlace g a.request
   IsDeed g (GivenUp a handled) = (g.asking ≡ Some a) × Wrote nothing_yet g.held g.past (piece_of a) a.written (Memory handled handled) × AreTaken (after_deed g (GivenUp a handled))
       × (handled + 1 ≡ length (completed s.limits g.past (piece_of a)))
-  IsDeed g (Declined a name minor written) = (g.asking ≡ Some a) × Wrote nothing_yet (put_at (length g.calls) (known (not_now name minor)) g.held) g.past (piece_of a) (a.written ++ written) Done × AreTaken (after_deed g (Declined a name minor written))
-  IsDeed g (Withdrawn i n name minor told) = (g.asking ≡ None) × (i < length g.calls) × (g.held i ≡ parked n) × AreTold n (not_now name minor) (without_call i g) told × ((told_all n (without_call i g) told).waiting n ≡ [])
-      × AreTaken (after_deed g (Withdrawn i n name minor told)) × IsFor (s.terms (changes g.past)).interface (g.there n) (not_now name minor)
+  IsDeed g (AnsweredUnkept a outcome written) = (g.asking ≡ Some a) × Wrote nothing_yet (put_at (length g.calls) (known outcome) g.held) g.past (piece_of a) (a.written ++ written) Done × AreTaken (after_deed g (AnsweredUnkept a outcome written))
+      × IsRenderable outcome
+  IsDeed g (SettledUnkept i n outcome told) = (g.asking ≡ None) × (i < length g.calls) × (g.held i ≡ parked n) × AreTold n outcome (without_call i g) told × ((told_all n (without_call i g) told).waiting n ≡ [])
+      × AreTaken (after_deed g (SettledUnkept i n outcome told)) × IsFor (s.terms (changes g.past)).interface (g.there n) outcome
   IsDeed g (Settled i n outcome told) = (g.asking ≡ None) × (i < length g.calls) × (g.held i ≡ parked n) × AreTold n outcome g told × ((told_all n g told).waiting n ≡ []) × AreTaken (after_deed g (Settled i n outcome told)) × IsFor (s.terms (changes g.past)).interface (g.there n) outcome
 
   -- deeds one after another, from a ledger on
@@ -337,22 +337,22 @@ module _ (s : Settings) where
   AnsweredAreKnown = (g : Ledger) (xs ys : List Deed) (a : Asking) (outcome : Performed) (written : List ℕ) (note : Note) → Runs g (xs ++ Answered a outcome written note ∷ ys)
       → (after_deeds g (xs ++ Answered a outcome written note ∷ ys)).held (length (after_deeds g xs).calls) ≡ known outcome
 
-  -- .. and the one that was told to all who waited for it.
+  -- .. and the one that was told to all who waited for it ..
   abbrev pub ToldAreKnown : Type 0
   ToldAreKnown = (g : Ledger) (xs ys : List Deed) (i n : ℕ) (outcome : Performed) (told : List Told) → Runs g (xs ++ Settled i n outcome told ∷ ys) → (after_deeds g (xs ++ Settled i n outcome told ∷ ys)).held i ≡ known outcome
 
-  -- .. or the refusal that was told to them.
-  abbrev pub DeclinedAreKnown : Type 0
-  DeclinedAreKnown = (g : Ledger) (xs ys : List Deed) (i n : ℕ) (name : SystemName) (minor : ℕ) (told : List Told) → Runs g (xs ++ Withdrawn i n name minor told ∷ ys) → (after_deeds g (xs ++ Withdrawn i n name minor told ∷ ys)).held i ≡ known (not_now name minor)
+  -- .. or that was told to them unkept ..
+  abbrev pub SettledUnkeptAreKnown : Type 0
+  SettledUnkeptAreKnown = (g : Ledger) (xs ys : List Deed) (i n : ℕ) (outcome : Performed) (told : List Told) → Runs g (xs ++ SettledUnkept i n outcome told ∷ ys) → (after_deeds g (xs ++ SettledUnkept i n outcome told ∷ ys)).held i ≡ known outcome
 
-  -- .. or to the one who asked, when it was declined at once.
-  abbrev pub RefusedAreKnown : Type 0
-  RefusedAreKnown = (g : Ledger) (xs ys : List Deed) (a : Asking) (name : SystemName) (minor : ℕ) (written : List ℕ) → Runs g (xs ++ Declined a name minor written ∷ ys)
-      → (after_deeds g (xs ++ Declined a name minor written ∷ ys)).held (length (after_deeds g xs).calls) ≡ known (not_now name minor)
+  -- .. or to the one who asked.
+  abbrev pub AnsweredUnkeptAreKnown : Type 0
+  AnsweredUnkeptAreKnown = (g : Ledger) (xs ys : List Deed) (a : Asking) (outcome : Performed) (written : List ℕ) → Runs g (xs ++ AnsweredUnkept a outcome written ∷ ys)
+      → (after_deeds g (xs ++ AnsweredUnkept a outcome written ∷ ys)).held (length (after_deeds g xs).calls) ≡ known outcome
 
-  -- Where no call is declined in a run, none is withdrawn.
+  -- Where something is kept of each call of a run, none is withdrawn.
   abbrev pub RunsKeepAll : Type 0
-  RunsKeepAll = (g : Ledger) (ds : List Deed) → Runs g ds → KeepsAll g.past → list_any declines ds ≡ false → KeepsAll (after_deeds g ds).past
+  RunsKeepAll = (g : Ledger) (ds : List Deed) → Runs g ds → KeepsAll g.past → list_any is_unkept ds ≡ false → KeepsAll (after_deeds g ds).past
 
   -- Where no call was withdrawn, what was written is what looking back over all arrivals says, each key by itself and whatever
   -- expirations requests carry ..
@@ -386,9 +386,9 @@ module _ (s : Settings) where
   SettledAreTheirs = (g : Ledger) (ds : List Deed) (ys : List Deed) (i j n : ℕ) (outcome : Performed) (told : List Told) → AreApart g → Runs g (ds ++ Settled j n outcome told ∷ ys)
       → i < length g.calls → g.held i ≡ parked n → list_any (settles n) ds ≡ false → i ≡ j
 
-  -- .. and nobody is told the refusal of another call.
-  abbrev pub WithdrawnAreTheirs : Type 0
-  WithdrawnAreTheirs = (g : Ledger) (ds ys : List Deed) (i j n : ℕ) (name : SystemName) (minor : ℕ) (told : List Told) → AreApart g → Runs g (ds ++ Withdrawn j n name minor told ∷ ys)
+  -- .. kept or not.
+  abbrev pub UnkeptAreTheirs : Type 0
+  UnkeptAreTheirs = (g : Ledger) (ds ys : List Deed) (i j n : ℕ) (outcome : Performed) (told : List Told) → AreApart g → Runs g (ds ++ SettledUnkept j n outcome told ∷ ys)
       → i < length g.calls → g.held i ≡ parked n → list_any (settles n) ds ≡ false → i ≡ j
 
   -- For a repeat that joins nothing is performed, and it makes nothing known.

@@ -4,8 +4,8 @@ use Rattle.std.specs.List.{list_any}
 use Rattle.ft_log.specs.Holding.{Holding, known, parked}
 use Rattle.ft_log.specs.Performed.{Performed}
 use Rattle.ft_log.specs.View.{performed_in}
-use Rattle.ft_log.specs.declared.system_exception.SystemName.{SystemName}
 use Rattle.ft_objects.specs.Catalogues.{Offer}
+use Rattle.ft_objects.specs.Replies.{IsRenderable}
 use Rattle.ft_orb.specs.declared.deeds.Deed.{Deed as CodeDeed}
 use Rattle.ft_orb.specs.declared.deeds.Deed.TheVariants as code
 use Rattle.ft_orb.specs.declared.deeds.DeedError.{DeedError}
@@ -21,7 +21,7 @@ use Rattle.ft_orb.specs.declared.events.Event.TheVariants as happening
 use Rattle.ft_orb.specs.declared.events.Note.{Note}
 use Rattle.ft_orb.specs.declared.events.Written.{Written}
 use Rattle.ft_orb.specs.Declined.{standing}
-use Rattle.ft_orb.specs.Deeds.{AreTold, Answered, Asking, Declined, Deed, GivenUp, Happened, IsDeed, IsLeftOf, Joined, Ledger, Parked, Runs, Settled, Stopped, Told, Withdrawn, after_deed, after_deeds, came_to, changing, note_told, notes_of, opening, reply_to, settles, told_all, told_of}
+use Rattle.ft_orb.specs.Deeds.{Answered, AnsweredUnkept, AreTold, Asking, Deed, GivenUp, Happened, IsDeed, IsLeftOf, Joined, Ledger, Parked, Runs, Settled, SettledUnkept, Stopped, Told, after_deed, after_deeds, came_to, changing, note_told, notes_of, opening, reply_to, settles, told_all, told_of}
 use Rattle.ft_orb.specs.Engines.{Awaited, CanAnswer, asks_in, waits_in}
 use Rattle.ft_orb.specs.ExactlyOnce.{OneExpiration, state_after, state_of}
 use Rattle.ft_orb.specs.History.{KeepsAll, Piece, arrivals, changes, event_of}
@@ -31,8 +31,8 @@ use Rattle.ft_orb.specs.Outputs.{Noted, noted}
 use Rattle.ft_orb.specs.Owners.{owned_rules}
 use Rattle.ft_orb.specs.Parking.{AsksLate, CanSettle, Settings, Stays, by_number, goes_on, not_now, parked_at, parked_count, parked_in, parked_of, places_of, places_of_one, put_at, told_in, waiter_of, waits_on}
 
--- A deed is one of what the code was told to do: a part is one of its piece. What is to be declined may be given up, where there are octets
--- to write.
+-- A deed is one of what the code was told to do: a part is one of its piece. What is to be declined, or told, may be given up, where there
+-- are octets to write.
 abbrev pub IsOf : CodeDeed → Deed → Type 0
 IsOf (code.Event e) (Happened happened written note) = happened ≡ event_of e
 IsOf (code.Event e) (Stopped p written w q) = event_of e ≡ Piece p.connection p.moment p.piece
@@ -40,9 +40,12 @@ IsOf (code.Event e) (Joined p written n joined) = event_of e ≡ Piece p.connect
 IsOf (code.Answer o) (Answered a outcome written note) = outcome ≡ performed_in o
 IsOf code.Park (Parked a own) = Unit {0}
 IsOf code.GiveUp (GivenUp a handled) = Unit {0}
-IsOf (code.Decline name minor) (Declined a said code_is written) = (said ≡ name) × (code_is ≡ minor)
+IsOf (code.Decline name minor) (AnsweredUnkept a outcome written) = outcome ≡ not_now name minor
 IsOf (code.Decline name minor) (GivenUp a handled) = 0 < length (reply_to (not_now name minor) (waiter_of a.request.connection a.question))
-IsOf (code.Withdraw n name minor) (Withdrawn i number said code_is told) = (number ≡ n) × (said ≡ name) × (code_is ≡ minor)
+IsOf (code.Withdraw n name minor) (SettledUnkept i number outcome told) = (number ≡ n) × (outcome ≡ not_now name minor)
+IsOf (code.Tell o) (AnsweredUnkept a outcome written) = outcome ≡ performed_in o
+IsOf (code.Tell o) (GivenUp a handled) = 0 < length (reply_to (performed_in o) (waiter_of a.request.connection a.question))
+IsOf (code.TellParked n o) (SettledUnkept i number outcome told) = (number ≡ n) × (outcome ≡ performed_in o)
 IsOf (code.Settle n o) (Settled i number outcome told) = (number ≡ n) × (outcome ≡ performed_in o)
 IsOf _ _ = ⊥
 
@@ -64,8 +67,8 @@ left_of (Answered a outcome written note) = None
 left_of (Parked a own) = None
 left_of (GivenUp a handled) = None
 left_of (Settled i n outcome told) = None
-left_of (Declined a name minor written) = None
-left_of (Withdrawn i n name minor told) = None
+left_of (AnsweredUnkept a outcome written) = None
+left_of (SettledUnkept i n outcome told) = None
 
 -- The deeds took all their pieces whole, but of that of the last this is left.
 abbrev pub LeaveAtLast : List Deed → Option ℕ → Type 0
@@ -90,6 +93,10 @@ IsRefused offers e (code.Settle n o) refused.NotParked = CanSettle (offers e.off
 IsRefused offers e (code.Withdraw n name minor) refused.Asking = IsSome (waits_in e)
 IsRefused offers e (code.Withdraw n name minor) refused.NotParked = CanSettle (offers e.offering.catalogue) (parked_at e n) (not_now name minor) → ⊥
 IsRefused offers e (code.Decline name minor) refused.NothingAsked = waits_in e ≡ None
+IsRefused offers e (code.Tell o) refused.NothingAsked = waits_in e ≡ None
+IsRefused offers e (code.Tell o) refused.NotFit = IsSome (waits_in e) × (IsRenderable (performed_in o) → ⊥)
+IsRefused offers e (code.TellParked n o) refused.Asking = IsSome (waits_in e)
+IsRefused offers e (code.TellParked n o) refused.NotParked = CanSettle (offers e.offering.catalogue) (parked_at e n) (performed_in o) → ⊥
 IsRefused offers e (code.Answer o) refused.NothingAsked = waits_in e ≡ None
 IsRefused offers e code.Park refused.NothingAsked = waits_in e ≡ None
 IsRefused offers e code.GiveUp refused.NothingAsked = waits_in e ≡ None
@@ -164,18 +171,18 @@ abbrev pub IsChange : {C : Type 0} → (C → Offer) → Engine C → Engine C �
 IsChange {C} offers old new = (s : Settings) (g : Ledger) → Holds offers s g old → s.terms (suc (changes g.past)) ≡ terms_by offers new.offering
     → IsDeed s g changing × ((n : ℕ) → (after_deed s g changing).waiting n ≡ g.waiting n) × Holds offers s (after_deed s g changing) new
 
--- What holds of a run from a new engine on: what is answered or told of a call is the outcome or the refusal that is known of it at
--- the end; of those who came to wait under a number each is told once, waits on, or its connection has ended; and what is told
--- under it first is of the call that was parked there. Where none is declined, the calls that were taken are those of the distinct
+-- What holds of a run from a new engine on: what is answered or told of a call, kept or not, is the outcome that is known of it at the
+-- end; of those who came to wait under a number each is told once, waits on, or its connection has ended; and what is told under it
+-- first is of the call that was parked there. Where something is kept of each, the calls that were taken are those of the distinct
 -- admissible requests, each once, in the order of their first arrivals, where requests with one key carry one expiration, and those
 -- that are performed with each key by itself, whatever they carry.
 pub record IsAnsweredLate (s : Settings) (held : ℕ → Holding) (ds : List Deed) : Type 0 where
   pub runs : Runs s (opening held) ds
   pub answered : (xs ys : List Deed) (a : Asking) (outcome : Performed) (written : List ℕ) (note : Note) → ds ≡ xs ++ Answered a outcome written note ∷ ys
       → (after_deeds s (opening held) ds).held (length (after_deeds s (opening held) xs).calls) ≡ known outcome
-  pub declined : (xs ys : List Deed) (a : Asking) (name : SystemName) (minor : ℕ) (written : List ℕ) → ds ≡ xs ++ Declined a name minor written ∷ ys
-      → (after_deeds s (opening held) ds).held (length (after_deeds s (opening held) xs).calls) ≡ known (not_now name minor)
-  pub withdrawn : (xs ys : List Deed) (i n : ℕ) (name : SystemName) (minor : ℕ) (told : List Told) → ds ≡ xs ++ Withdrawn i n name minor told ∷ ys → (after_deeds s (opening held) ds).held i ≡ known (not_now name minor)
+  pub answered_unkept : (xs ys : List Deed) (a : Asking) (outcome : Performed) (written : List ℕ) → ds ≡ xs ++ AnsweredUnkept a outcome written ∷ ys
+      → (after_deeds s (opening held) ds).held (length (after_deeds s (opening held) xs).calls) ≡ known outcome
+  pub settled_unkept : (xs ys : List Deed) (i n : ℕ) (outcome : Performed) (told : List Told) → ds ≡ xs ++ SettledUnkept i n outcome told ∷ ys → (after_deeds s (opening held) ds).held i ≡ known outcome
   pub known : (xs ys : List Deed) (i n : ℕ) (outcome : Performed) (told : List Told) → ds ≡ xs ++ Settled i n outcome told ∷ ys → (after_deeds s (opening held) ds).held i ≡ known outcome
   pub once : KeepsAll (after_deeds s (opening held) ds).past → OneExpiration (arrivals s.limits (after_deeds s (opening held) ds).past)
       → (after_deeds s (opening held) ds).calls ≡ state_of (owned_rules (by_number s held)) [] (arrivals s.limits (after_deeds s (opening held) ds).past)

@@ -15,7 +15,7 @@ use crate::engine::{Engine, Fed};
 use crate::error::{CloseError, ParkError, ServeError};
 use crate::events::{Event, Note, Written};
 use crate::playing::{opened, served};
-use crate::telling::{do_settle, do_withdraw};
+use crate::telling::{do_settle, do_tell, do_tell_parked, do_withdraw};
 use ft_log::{Outcome, SystemName};
 use ft_objects::Catalogue;
 use std::alloc::Global;
@@ -39,6 +39,10 @@ pub enum Deed {
     Decline(SystemName, u32),
     /// The request that is parked under a number is declined, and all who wait for it are told so.
     Withdraw(u64, SystemName, u32),
+    /// An outcome is told to the request that waits, and nothing is kept. Where an allocation fails it is given up.
+    Tell(Outcome),
+    /// An outcome is told to all who wait for the request that is parked under a number, and nothing is kept.
+    TellParked(u64, Outcome),
 }
 
 /// Why a deed was not done. The engine stands for what it stood for.
@@ -309,6 +313,14 @@ fn do_deed<C: Catalogue + Drop>(
             do_withdraw(alloc, engine, *number, *name, *minor, out)?;
             return Ok(None);
         }
+        Deed::Tell(outcome) => (do_tell(alloc, engine, outcome)?, None),
+        Deed::TellParked(number, outcome) => {
+            if engine.is_asking() {
+                return Err(DeedError::Asking);
+            }
+            do_tell_parked(alloc, engine, *number, outcome, out)?;
+            return Ok(None);
+        }
     };
     out.push(written).unwrap();
     Ok(left)
@@ -331,8 +343,8 @@ pub fn play_deeds<C: Catalogue + Drop>(
         × (flat_map notes_of ds ≡ map noted written)
         × LeaveAtLast ds (left_at result)
         × Holds C.offers s (after_deeds s g ds) engine.new }
-    // from a new engine on: each distinct admissible request is a call once, where none is declined, and who waits for one is told
-    // once
+    // from a new engine on: each distinct admissible request is a call once, where none is declined or told unkept, and who waits
+    // for one is told once
     ensures new { (s : Settings) (held : ℕ → Holding) → Holds C.offers s (opening held) engine.old → (ds : List History) × (written : List Written)
         × (out.new.items ≡ out.old.items ++ written)
         × AreOf (take (deeds_done (length deeds.now) result) deeds.now) ds

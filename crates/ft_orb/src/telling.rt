@@ -1,10 +1,10 @@
-//! Outcomes and refusals, told to all who wait for what is parked.
+//! Outcomes and refusals, told to all who wait for what is parked; and those of which nothing is kept.
 
-ghost use Rattle.std.specs.Prelude.{◌≡◌, ◌==◌, ◌++◌, ◌+◌, ◌≤◌, ◌<◌, ℕ, List, OnOk, IfErr, IsSome, None, Some, false, length, map};
+ghost use Rattle.std.specs.Prelude.{◌≡◌, ◌==◌, ◌++◌, ◌∷◌, ◌+◌, ◌≤◌, ◌<◌, ℕ, List, [], OnOk, IfErr, IfOk, IsSome, None, Some, false, length, map};
 ghost use Rattle.std.specs.Vec.{vec_capacity};
 ghost use Rattle.ft_log.specs.Performed.{Performed};
 ghost use Rattle.ft_orb.specs.Deeds.{Ledger};
-ghost use Rattle.ft_orb.specs.DeedsPlayed.{Holds, IsDone, IsRefused, IsTold, Remains};
+ghost use Rattle.ft_orb.specs.DeedsPlayed.{Becomes, Holds, IsDone, IsRefused, IsTold, Remains};
 ghost use Rattle.ft_orb.specs.Engines.{asks_in, waits_in};
 ghost use Rattle.ft_orb.specs.Outputs.{noted};
 ghost use Rattle.ft_orb.specs.Parking.{Settings, Stays, left_in, parked_in, told_in};
@@ -13,7 +13,9 @@ ghost use Rattle.ft_orb.specs.declared.deeds.Deed.TheVariants as code;
 use crate::deeds::DeedError;
 use crate::engine::Engine;
 use crate::events::Written;
+use crate::outcomes::is_renderable;
 use crate::playing::served;
+use crate::unkept::Unkept;
 use ft_log::{Completion, Outcome, SystemName};
 use ft_objects::Catalogue;
 use std::alloc::Global;
@@ -106,6 +108,61 @@ pub(crate) fn do_withdraw<C: Catalogue + Drop>(
         return Err(DeedError::Memory);
     }
     engine.withdraw(number, name, minor);
+    tell_all(alloc, engine, number, out);
+    Ok(())
+}
+
+/// An outcome is told to the request that waits, and nothing is kept; or it is given up.
+pub(crate) fn do_tell<C: Catalogue + Drop>(
+    alloc: Global,
+    engine: &mut Engine<C>,
+    outcome: &Outcome,
+) -> Result<Written, DeedError>
+    ensures ok { IfOk result (λ written. Becomes C.offers (code.Tell outcome.now) None (noted written ∷ []) engine.old engine.new) }
+    ensures err { IfErr result (λ why. IsRefused C.offers engine.new (code.Tell outcome.now) why × Remains C.offers engine.old engine.new) }
+    ensures catalogue { engine.new.offering ≡ engine.old.offering }
+{
+    let Some(asked) = engine.asked() else {
+        return Err(DeedError::NothingAsked);
+    };
+    let number = asked.number;
+    let connection = asked.connection;
+    if !is_renderable(outcome) {
+        return Err(DeedError::NotFit);
+    }
+    let mut octets = Vec::new(alloc);
+    let note = served(engine.tell(number, outcome, Unkept::Performed, &mut octets));
+    Ok(Written {
+        connection,
+        octets,
+        note,
+    })
+}
+
+/// An outcome is told to all who wait for the request that is parked under a number, and nothing is kept.
+pub(crate) fn do_tell_parked<C: Catalogue + Drop>(
+    alloc: Global,
+    engine: &mut Engine<C>,
+    number: u64,
+    outcome: &Outcome,
+    out: &mut Vec<Written>,
+) -> Result<(), DeedError>
+    requires idle { waits_in engine.old ≡ None }
+    ensures ok { OnOk result ((s : Settings) (g : Ledger) → Holds C.offers s g engine.old → (written : List Written) × (out.new.items ≡ out.old.items ++ written)
+        × IsDone C.offers s g (code.TellParked number outcome.now) None (map noted written) engine.new) }
+    ensures err { IfErr result (λ why. (out.new.items ≡ out.old.items) × IsRefused C.offers engine.new (code.TellParked number outcome.now) why × Remains C.offers engine.old engine.new) }
+    ensures catalogue { engine.new.offering ≡ engine.old.offering }
+{
+    if !engine.can_settle(number, outcome) {
+        return Err(DeedError::NotParked);
+    }
+    let Ok(copy) = outcome.copy(alloc) else {
+        return Err(DeedError::Memory);
+    };
+    if out.reserve(waiters(engine, number)).is_err() {
+        return Err(DeedError::Memory);
+    }
+    engine.tell_parked(number, copy, Unkept::Performed);
     tell_all(alloc, engine, number, out);
     Ok(())
 }

@@ -6,7 +6,7 @@ ghost use Rattle.ft_orb.specs.Engines.{Awaited, waits_in};
 use ft_lives::{MemoryStore, Store, Verdict, perform_once};
 use ft_log::{Retention, SystemName};
 use ft_objects::{Catalogue, Servant};
-use ft_orb::{ConnectError, Engine, Fed, Places, ServeError};
+use ft_orb::{ConnectError, Engine, Fed, Places, ServeError, Unkept, outcome_len};
 use giop_frames::Limits;
 use std::alloc::Global;
 use std::hash::RandomState;
@@ -28,8 +28,8 @@ pub enum DurableError {
 /// How often a request is looked up, where a transaction brings no answer.
 const TRIES: u32 = 3;
 
-/// Takes the owner's steps for the request that waits, and does what they come to. A request without a key is given up: a
-/// repeat of it could not be told from a new one.
+/// Takes the owner's steps for the request that waits, and does what they come to. The store keeps the outcome, so the
+/// engine keeps none. A request without a key is given up: a repeat of it could not be told from a new one.
 fn answer<C: Catalogue + Drop, S: Store>(
     alloc: Global,
     engine: &mut Engine<C>,
@@ -49,8 +49,8 @@ fn answer<C: Catalogue + Drop, S: Store>(
         None => Verdict::Unknown,
     };
     match verdict {
-        Verdict::Answer(outcome) if engine.can_answer(number, &outcome) => {
-            engine.answer(number, outcome, out)?;
+        Verdict::Answer(outcome) if outcome_len(&outcome).is_some() => {
+            engine.tell(number, &outcome, Unkept::Performed, out)?;
         }
         Verdict::Over => engine.decline(number, SystemName::BadContext, 0, out)?,
         Verdict::Decline => engine.decline(number, SystemName::Transient, 0, out)?,

@@ -1,7 +1,7 @@
 use Rattle.std.proofs.Common.{List, [], ◌∷◌, refl, sym, ◌∙◌}
 use Rattle.std.proofs.lemmas.List.{append-nil}
 use Rattle.ft_orb.specs.declared.events.Written.{Written}
-use Rattle.ft_orb.proofs.deeds.do_deed.Goals.{in-Event+else-is_asking+in_ok-do_event-in-Event, in-Answer+in_ok-do_answer-in-Answer, in-GiveUp+in_ok-do_give_up-in-GiveUp, in-Decline+in_ok-do_decline-in-Decline}
+use Rattle.ft_orb.proofs.deeds.do_deed.Goals.{in-Event+else-is_asking+in_ok-do_event-in-Event, in-Answer+in_ok-do_answer-in-Answer, in-GiveUp+in_ok-do_give_up-in-GiveUp, in-Decline+in_ok-do_decline-in-Decline, in-Tell+in_ok-do_tell-in-Tell}
 use Rattle.ft_orb.proofs.deeds.do_deed.Goals as goal
 
 pub returns-clause-ok : goal.returns-clause-ok
@@ -13,6 +13,7 @@ returns-clause-ok g c s h holds = (
     | in-Answer+in_ok-do_answer-in-Answer w ↦ rw (w.engine-is, w.written-is, w.in-Answer.is) (w.in_ok-do_answer-in-Answer.ensures.ok s h holds)
     | in-GiveUp+in_ok-do_give_up-in-GiveUp w ↦ rw (w.engine-is, w.written-is, w.in-GiveUp.is) (w.in_ok-do_give_up-in-GiveUp.ensures.ok s h holds)
     | in-Decline+in_ok-do_decline-in-Decline w ↦ rw (w.engine-is, w.written-is, w.in-Decline.is) (w.in_ok-do_decline-in-Decline.ensures.ok s h holds)
+    | in-Tell+in_ok-do_tell-in-Tell w ↦ rw (w.engine-is, w.written-is, w.in-Tell.is) (w.in_ok-do_tell-in-Tell.ensures.ok s h holds)
   ],
 )
 

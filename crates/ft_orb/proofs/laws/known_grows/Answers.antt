@@ -1,4 +1,4 @@
-use Rattle.ft_orb.proofs.Ledgers.{answered-are-known, calls-are-taken, calls-grow, declined-are-known, joined-are-no-calls, known-grows, refused-are-known, told-are-known}
+use Rattle.ft_orb.proofs.Ledgers.{answered-are-known, answered-unkept-are-known, calls-are-taken, calls-grow, joined-are-no-calls, known-grows, settled-unkept-are-known, told-are-known}
 use Rattle.ft_orb.proofs.laws.known_grows.Goals as goal
 
 pub returns-clause-calls : goal.returns-clause-calls
@@ -19,8 +19,8 @@ returns-clause-told c = told-are-known
 pub returns-clause-joined : goal.returns-clause-joined
 returns-clause-joined c = joined-are-no-calls
 
-pub returns-clause-declined : goal.returns-clause-declined
-returns-clause-declined c = declined-are-known
+pub returns-clause-settled_unkept : goal.returns-clause-settled_unkept
+returns-clause-settled_unkept c = settled-unkept-are-known
 
-pub returns-clause-refused : goal.returns-clause-refused
-returns-clause-refused c = refused-are-known
+pub returns-clause-answered_unkept : goal.returns-clause-answered_unkept
+returns-clause-answered_unkept c = answered-unkept-are-known

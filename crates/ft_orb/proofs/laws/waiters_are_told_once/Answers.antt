@@ -1,4 +1,4 @@
-use Rattle.ft_orb.proofs.Ledgers.{settled-are-theirs, told-once, withdrawn-are-theirs}
+use Rattle.ft_orb.proofs.Ledgers.{settled-are-theirs, told-once, unkept-are-theirs}
 use Rattle.ft_orb.proofs.laws.waiters_are_told_once.Goals as goal
 
 pub returns-clause-once : goal.returns-clause-once
@@ -7,5 +7,5 @@ returns-clause-once c s = told-once s c.streams_are_heard.ensures.stays
 pub returns-clause-theirs : goal.returns-clause-theirs
 returns-clause-theirs c = settled-are-theirs
 
-pub returns-clause-withdrawn : goal.returns-clause-withdrawn
-returns-clause-withdrawn c = withdrawn-are-theirs
+pub returns-clause-unkept : goal.returns-clause-unkept
+returns-clause-unkept c = unkept-are-theirs
