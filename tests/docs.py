@@ -21,9 +21,9 @@ SIZES = {
     "docs/PROMISES.md": 26_500,
     "docs/READING.md": 10_000,
     "docs/ARCHITECTURE.md": 10_000,
-    "docs/TESTING.md": 13_000,
+    "docs/TESTING.md": 13_500,
 }
-BY_HAND = 242_800
+BY_HAND = 244_000
 PAGES_OF_CRATES = 25_000
 # the most lines of the list that a reader begins with, and of a source
 FIRST_LIST = 450
