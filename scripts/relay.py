@@ -28,10 +28,12 @@ def lacking():
     return [package for crate, package in PACKAGES.items() if not glob.glob(f"{REGISTRY}/{crate}-[0-9]*")]
 
 
-def cargo(lib, *words, target=TARGET, **options):
-    """Runs a command of cargo on the relay, over the library in a folder, and answers what `subprocess.run` does."""
+def cargo(lib, *words, then=(), target=TARGET, **options):
+    """Runs a command of cargo on the relay, over the library in a folder, with words for what it runs behind `--`, and
+    answers what `subprocess.run` does."""
     env = {**os.environ, "LEMONRUDDER_LIB_DIR": lib, "CARGO_TARGET_DIR": target}
-    return subprocess.run(["cargo", *words, "--offline", *OF_REGISTRY], cwd=SOURCES, env=env,
+    behind = ["--", *then] if then else []
+    return subprocess.run(["cargo", *words, "--offline", *OF_REGISTRY, *behind], cwd=SOURCES, env=env,
                           stdin=subprocess.DEVNULL, check=False, **options)
 
 

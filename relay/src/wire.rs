@@ -2,6 +2,7 @@
 
 use crate::tls::{Acceptor, Connector};
 use std::env;
+use std::future::Future;
 use std::io;
 use std::os::linux::net::SocketAddrExt;
 use std::os::unix::ffi::OsStrExt;
@@ -44,13 +45,16 @@ pub fn locked<T>(mutex: &Mutex<T>) -> MutexGuard<'_, T> {
     mutex.lock().unwrap_or_else(PoisonError::into_inner)
 }
 
-/// Ends once the program is asked to end, by SIGTERM or SIGINT.
-pub async fn ended() {
-    let (terminate, interrupt) = (signal(SignalKind::terminate()), signal(SignalKind::interrupt()));
-    if let (Ok(mut terminate), Ok(mut interrupt)) = (terminate, interrupt) {
-        select! {
-            _ = terminate.recv() => {}
-            _ = interrupt.recv() => {}
+/// From now on the program is not ended by SIGTERM or SIGINT: the future ends, once it is asked to
+/// end by one of them.
+pub fn ended() -> impl Future<Output = ()> {
+    let signals = (signal(SignalKind::terminate()), signal(SignalKind::interrupt()));
+    async move {
+        if let (Ok(mut terminate), Ok(mut interrupt)) = signals {
+            select! {
+                _ = terminate.recv() => {}
+                _ = interrupt.recv() => {}
+            }
         }
     }
 }

@@ -5,13 +5,13 @@ Each test of Rust is a part. Those over PostgreSQL start one; where it is missin
 from __future__ import annotations
 
 import glob
-import json
 import os
 import re
 import shutil
 import subprocess
 import unittest
 
+from scripts import relay
 from tests.programs import NEEDS, ROOT, library, needs
 from tests.relay import relays
 
@@ -22,17 +22,11 @@ HAS_POSTGRES = bool(glob.glob("/usr/lib/postgresql/*/bin/initdb")) and (
     os.geteuid() != 0 or shutil.which("runuser") is not None)
 
 
-def cargo(*words: str) -> tuple[int, str]:
+def cargo(*words: str, then: tuple[str, ...]) -> tuple[int, str]:
     """Runs cargo in the relay's folder, and answers its status and what it printed."""
     relays.program()
-    command, *others = words
-    registry = ["--config", 'source.crates-io.replace-with = "debian"',
-                "--config", f"source.debian.directory = {json.dumps(relays.REGISTRY)}"]
-    env = {**os.environ, "CARGO_TARGET_DIR": os.path.join(ROOT, "out", "relay"),
-           "LEMONRUDDER_LIB_DIR": os.path.join(library(), "lib")}
-    ran = subprocess.run(["cargo", command, "--offline", *registry, *others], cwd=RELAY, env=env,
-                         stdin=subprocess.DEVNULL, stdout=subprocess.PIPE, stderr=subprocess.STDOUT, text=True,
-                         timeout=SECONDS, check=False)
+    ran = relay.cargo(os.path.join(library(), "lib"), *words, then=then, stdout=subprocess.PIPE, stderr=subprocess.STDOUT,
+                      text=True, timeout=SECONDS)
     return ran.returncode, ran.stdout
 
 
@@ -42,7 +36,7 @@ class Crate(unittest.TestCase):
 
     def passes(self, *words: str) -> None:
         """Tests of the crate pass."""
-        status, said = cargo("test", "--", *words)
+        status, said = cargo("test", then=words)
         tests = [(name, ended) for name, ended in re.findall(r"^test (\S+) \.\.\. (\w+)", said, re.M)
                  if ended != "ignored"]
         for name, ended in tests:
@@ -64,7 +58,7 @@ class Crate(unittest.TestCase):
     @needs("cargo-clippy")
     def test_lints(self) -> None:
         """Clippy has nothing to say."""
-        status, said = cargo("clippy", "--all-targets", "--", "-D", "warnings")
+        status, said = cargo("clippy", "--all-targets", then=("-D", "warnings"))
         self.assertEqual(status, 0, said)
 
     @needs("rustfmt")
