@@ -772,8 +772,8 @@ LR_API int64_t lr_assembler_context(lr_assembler *assembler, uint32_t index, uin
 /*
  * Each writes a whole message into the room, and answers its size. LR_E_ROOM where the room is smaller: nothing is
  * written then. LR_E_RANGE: there is no such version, order, wish or status. A CancelRequest, a LocateReply,
- * CloseConnection and MessageError take no memory: they answer nothing else. The others may answer LR_E_MEMORY, and
- * LR_E_LONG, where a message or a part of it is too long.
+ * CloseConnection and MessageError take no memory: they answer nothing else. The others may answer LR_E_LONG, where a
+ * message or a part of it is too long, and LR_E_MEMORY, where nothing else refuses them and there is room.
  */
 
 /* A Request to an object key, with at most one service context, where context_size is not 0 (its id is context_id).
@@ -816,7 +816,8 @@ LR_API int64_t lr_ior_parse(lr_ior *ior, const void *text, size_t size);
 LR_API int64_t lr_ior_iiop(lr_ior *ior, const void *type_id, size_t type_id_size, uint32_t minor,
                            const void *host, size_t host_size, uint16_t port, const void *key, size_t key_size);
 
-/* Writes its stringified form, and answers its size. It has no NUL at its end. LR_E_EMPTY, LR_E_ROOM, LR_E_MEMORY. */
+/* Writes its stringified form, and answers its size. It has no NUL at its end. LR_E_EMPTY, LR_E_ROOM, and LR_E_MEMORY
+ * where there is room. */
 LR_API int64_t lr_ior_print(lr_ior *ior, void *room, size_t size);
 
 /* Copies the repository id of its type, as much of it as the room has octets, and answers its size. LR_E_EMPTY. */

@@ -22,6 +22,7 @@ mod Lending
 mod Machine
 mod Noting
 mod Offered
+mod Opening
 mod Owing
 mod OwingLate
 mod Pairs
@@ -34,6 +35,7 @@ mod References
 mod Refusing
 mod Resuming
 mod Servers
+mod Sized
 mod Telling
 mod Tellings
 mod Values

@@ -72,10 +72,10 @@ abbrev pub TellsIfSome : Option (List ℕ) → (room new : List ℕ) → Result 
 TellsIfSome (Some octets) room new r = Tells octets room new r
 TellsIfSome None room new r = TellsNone refusal.None room new r
 
--- arguments that are values, in big order from place 0
+-- arguments that are values, in big order from place 0, for which no memory is taken where they have no octets
 abbrev pub TellsValues : Values → (room new : List ℕ) → Result ℕ Refusal → Type 0
 TellsValues arguments room new r =
-    (AreWritable arguments → TellsNone refusal.Memory room new r ⊎ Tells (octets_of_all Big arguments 0) room new r)
+    (AreWritable arguments → ((0 < length (octets_of_all Big arguments 0)) × TellsNone refusal.Memory room new r) ⊎ Tells (octets_of_all Big arguments 0) room new r)
     × (¬ (AreWritable arguments) → TellsNone refusal.None room new r)
 
 -- the body: the octets that came; or arguments that are values

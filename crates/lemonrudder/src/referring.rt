@@ -6,6 +6,7 @@ ghost use Rattle.lemonrudder.specs.Profiles.{head_of};
 
 use crate::layout::Layout;
 use crate::refusal::{Refusal, copied, count_of, fitted};
+use crate::sizes::has_room_for_text;
 use ior_core::{
     Component, IiopProfile, Ior, IorError, Profile, TAG_INTERNET_IOP, parse_text, print_text,
     read_iiop, write_iiop,
@@ -154,6 +155,9 @@ impl Referring {
     {
         if !self.ior.is_writable() {
             return Err(Refusal::Text);
+        }
+        if !has_room_for_text(&self.ior, room) {
+            return Err(Refusal::Room);
         }
         let text = print_text(self.alloc, &self.ior)?;
         fitted(text.as_bytes(), room)

@@ -80,6 +80,9 @@ impl Serving {
         if self.engine.is_asking() {
             return Err(Refusal::Asking);
         }
+        if !self.engine.is_new(connection) {
+            return Err(Refusal::Connection);
+        }
         let was = self.connections.has(connection);
         self.connections.open(connection)?;
         match self.engine.connect(connection) {

@@ -1,7 +1,8 @@
 //! What is said of the request that waits, and of one that is parked.
 
-ghost use Rattle.std.specs.Prelude.{◌≡◌, IfOk};
+ghost use Rattle.std.specs.Prelude.{◌≡◌, ◌↔◌, ◌<◌, IfOk, IsTrue, length};
 ghost use Rattle.cdr_core.specs.View.{values_of};
+ghost use Rattle.cdr_core.specs.Writing.{octets_of_all};
 ghost use Rattle.ft_orb.specs.Engines.{awaited_lent, waits_in};
 ghost use Rattle.ft_orb.specs.Parking.{parked_in};
 ghost use Rattle.ft_objects.specs.Interfaces.{interface_of};
@@ -33,7 +34,7 @@ pub(super) struct Called<'e> {
 
 impl Serving {
     ghost use Rattle.lemonrudder.specs.Outcomes.{interface_at};
-    ghost use Rattle.lemonrudder.specs.Questions.{OnAsked, OnPart, TellsBody, is_raw, with_body};
+    ghost use Rattle.lemonrudder.specs.Questions.{OnAsked, OnPart, TellsBody, TellsValues, is_raw, with_body};
     ghost use Rattle.lemonrudder.specs.Tickets.{IsAskedBy, IsFound, IsFoundAt, IsNamedBy, IsParkedOne, called_by, found_parked, named_by, parked_by};
 
     /// The request that waits, where it has this ticket.
@@ -154,8 +155,18 @@ impl Serving {
         if let Some(octets) = octets_at(arguments, 0) {
             return Ok(copied(octets, room));
         }
+        self.values_of_call(arguments, room)
+    }
+
+    /// .. that are values.
+    fn values_of_call(&self, arguments: &[Val], room: &mut [u8]) -> Result<u64, Refusal>
+        ensures { TellsValues (values_of arguments.now) room.old room.new result }
+    {
         if !are_writable(arguments) {
             return Err(Refusal::None);
+        }
+        if !have_octets(arguments) {
+            return Ok(0);
         }
         let mut octets = Vec::new(self.alloc);
         write_list(Order::Big, 0, arguments, &mut octets)?;
@@ -184,6 +195,16 @@ fn body_len(arguments: &[Val]) -> u64
     match octets_at(arguments, 0) {
         Some(octets) => count_of(octets),
         None => end_of_list(0, arguments).unwrap_or(0),
+    }
+}
+
+/// Whether arguments that are values have octets.
+fn have_octets(arguments: &[Val]) -> bool
+    ensures { IsTrue result ↔ (0 < length (octets_of_all Order.Big (values_of arguments.now) 0)) }
+{
+    match end_of_list(0, arguments) {
+        Some(end) => end > 0,
+        None => true,
     }
 }
 
