@@ -4,7 +4,8 @@ was killed and started anew meanwhile, or where another one on the same database
 
 usage: bank_durable.py --store STORE [--port PORT] [--purge SECONDS]
 
-STORE is the path of a SQLite file, or an address of PostgreSQL, postgres://.., for which it takes asyncpg. It listens
+STORE is the path of a SQLite file, or an address of PostgreSQL, postgres://.., for which it takes asyncpg; or memory:
+and the path of a file by which a bank in memory hands over all that it has, at its end, to the next one. It listens
 on 127.0.0.1, at a free port if none is given, prints its reference, and serves until SIGTERM or SIGINT. The object of
 the key `bank` has the interface of bank.idl. Every so many seconds, or 60, it takes out outcomes that expired.
 
@@ -22,7 +23,7 @@ from typing import Any, Dict
 
 sys.path.insert(0, os.path.join(os.path.dirname(os.path.abspath(__file__)), "..", "bindings", "python"))
 
-from lemonrudder import Outcome, PostgresStore, Server, SqliteStore, UserException, current  # noqa: E402
+from lemonrudder import MemoryStore, Outcome, PostgresStore, Server, SqliteStore, UserException, current  # noqa: E402
 
 KEY = b"bank"
 BANK = "IDL:Bank:1.0"
@@ -101,18 +102,55 @@ class PostgresBank:
             return await db.fetchval("SELECT balance FROM account WHERE name = $1", account) or 0
 
 
+class MemoryBank:
+    """Accounts in memory, with their balances in cents, which a file hands over to the next bank."""
+
+    def __init__(self, path: str) -> None:
+        self.path = path
+        self.store = MemoryStore()
+        if os.path.exists(path):
+            with open(path, "rb") as file:
+                self.store = MemoryStore.taken_over(file.read())
+            os.remove(path)
+
+    async def deposit(self, account: str, cents: int) -> Outcome:
+        async with self.store.transaction() as accounts:
+            balance = accounts.get(account, 0) + cents
+            if 0 <= balance <= MOST:
+                accounts[account] = balance
+                return await current().store(accounts, balance)
+            return await current().store(accounts, UserException(OVERDRAWN, [balance - cents]))
+
+    async def balance(self, account: str) -> int:
+        return self.store.state.get(account, 0)
+
+    def hand_over(self) -> None:
+        with open(f"{self.path}.new", "wb") as file:
+            file.write(self.store.hand_over())
+        os.replace(f"{self.path}.new", self.path)
+
+
+def bank_of(store: str) -> Any:
+    if store.startswith(("postgres:", "postgresql:")):
+        return PostgresBank(store)
+    return MemoryBank(store[len("memory:"):]) if store.startswith("memory:") else SqliteBank(store)
+
+
 async def main(store: str, port: int, purge: float) -> None:
     stop = asyncio.Event()
     for number in (signal.SIGINT, signal.SIGTERM):
         asyncio.get_running_loop().add_signal_handler(number, stop.set)
-    bank: Any = PostgresBank(store) if store.startswith(("postgres:", "postgresql:")) else SqliteBank(store)
+    bank = bank_of(store)
     async with Server(store=bank.store, purge_every=purge) as server:
         operations = {"deposit": ("sq", "q"), "balance": ("s", "q")}
         server.add(KEY, BANK, operations, raises={"deposit": {OVERDRAWN: "q"}}, servant=bank)
         await server.listen("127.0.0.1", port)
         print(server.reference(KEY), flush=True)
         await stop.wait()
-    await bank.store.close()
+    if isinstance(bank, MemoryBank):
+        bank.hand_over()
+    else:
+        await bank.store.close()
 
 
 if __name__ == "__main__":

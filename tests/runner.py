@@ -32,12 +32,14 @@ OF_PROGRAMS = [
 OF_LIBRARY = [
     "tests.embedding", "tests.embed.deeds_test", "tests.embed.first_programs", "tests.embed.python_test",
     "tests.embed.store_test", "tests.embed.durable_test", "tests.embed.rust_test",
+    "tests.relay.retry_test", "tests.relay.orbs_test",
+    "tests.embed.idl_test",
 ]
 
 
 def modules_of_tests() -> Iterator[str]:
     """The modules of this package that have tests."""
-    for folder in ("tests", "tests/embed"):
+    for folder in ("tests", "tests/embed", "tests/relay"):
         for name in sorted(os.listdir(os.path.join(programs.ROOT, folder))):
             if name.endswith(".py"):
                 with open(os.path.join(programs.ROOT, folder, name), encoding="utf-8") as file:

@@ -258,6 +258,11 @@ class Later {
     });
   }
   void answer_stored(const Outcome& outcome) { answer_raw(outcome.status, outcome.order, outcome.body); }
+  void answer_unkept(Outcome outcome) {
+    end([kept = std::move(outcome)](Server& server, std::uint64_t ticket) {
+      return server.answer_unkept(ticket, kept);
+    });
+  }
   /* Service contexts for its replies; the last that are said count. */
   void reply_contexts(Order order, Octets contexts) {
     contexts_order_ = order;
@@ -329,6 +334,7 @@ class Asked {
     return server_.stored_exception(ticket(), id, order, members);
   }
   Done answer_stored(const Outcome& outcome) noexcept { return server_.answer_stored(ticket(), outcome); }
+  Done answer_unkept(const Outcome& outcome) noexcept { return server_.answer_unkept(ticket(), outcome); }
   Done reply_contexts(Order order, Octets contexts) noexcept {
     return server_.reply_contexts(ticket(), order, contexts);
   }

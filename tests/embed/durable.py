@@ -18,6 +18,7 @@ import time
 import unittest
 from collections.abc import AsyncIterator, Callable, Iterator
 
+from tests.embed import rust_test
 from tests.programs import NEEDS, ROOT, library, tool
 
 if "LEMONRUDDER_LIBRARY" not in os.environ:
@@ -27,6 +28,7 @@ sys.path.insert(0, os.path.join(ROOT, "bindings", "python"))
 import lemonrudder as lr  # noqa: E402
 
 EXAMPLES = os.path.join(ROOT, "examples")
+LANGUAGES = ("c", "cpp", "rs", "py")
 KEY, OVERDRAWN = b"bank", "IDL:Bank/Overdrawn:1.0"
 # how long a call, or what is waited for, may take on a busy machine
 SECONDS = 300
@@ -64,8 +66,8 @@ def until(is_so: Callable[[], object], what: str) -> None:
         time.sleep(0.01)
 
 
-def compiled(folder: str, *words: str) -> None:
-    ran = subprocess.run(["cc", "-std=c99", "-O1", "-Wall", "-Wextra", "-Wpedantic", "-Wshadow", "-Werror", *words],
+def compiled(folder: str, *words: str, compiler: tuple[str, ...] = ("cc", "-std=c99")) -> None:
+    ran = subprocess.run([*compiler, "-O1", "-Wall", "-Wextra", "-Wpedantic", "-Wshadow", "-Werror", *words],
                          cwd=folder, capture_output=True, text=True, check=False)
     if ran.returncode != 0:
         raise AssertionError(ran.stderr)
@@ -82,22 +84,49 @@ def flags_of(package: str, debian: str) -> list[str]:
 
 
 @functools.lru_cache(maxsize=None)
-def made(is_postgres: bool) -> str:
-    """The folder of the bank in C, and of the clock that is wrong."""
+def late_clock() -> str:
+    """The library that makes a clock wrong."""
     folder = tempfile.mkdtemp(prefix="durable-")
     os.chmod(folder, 0o755)
-    flags = flags_of("sqlite3", "libsqlite3-dev")
-    sources = ["bank_durable.c", "bank_sqlite.c", "loop.c"]
-    if is_postgres:
-        flags = [*flags, "-DBANK_POSTGRES", *flags_of("libpq", "libpq-dev")]
-        sources.append("bank_postgres.c")
-    lib = library()
-    compiled(folder, f"-I{lib}/include", *(os.path.join(EXAMPLES, name) for name in sources),
-             f"{lib}/lib/liblemonrudder.a", *flags, "-pthread", "-o", "bank")
+    tool("cc")
     with open(os.path.join(folder, "late.c"), "w", encoding="ascii") as file:
         file.write(LATE_C)
     compiled(folder, "late.c", "-shared", "-fPIC", "-o", "late.so", "-ldl")
-    return folder
+    return os.path.join(folder, "late.so")
+
+
+@functools.lru_cache(maxsize=None)
+def made(language: str, is_postgres: bool) -> str:
+    """The bank in C, C++ or Rust."""
+    folder = tempfile.mkdtemp(prefix="durable-")
+    os.chmod(folder, 0o755)
+    flags = flags_of("sqlite3", "libsqlite3-dev")
+    if language == "rs":
+        return made_of_rust(folder)
+    sources = ["bank_sqlite.c"] if language == "cpp" else ["bank_durable.c", "bank_sqlite.c", "loop.c"]
+    if is_postgres:
+        flags = [*flags, "-DBANK_POSTGRES", *flags_of("libpq", "libpq-dev")]
+        sources.append("bank_postgres.c")
+    lib, paths = library(), [os.path.join(EXAMPLES, name) for name in sources]
+    linked = [f"-I{lib}/include", f"{lib}/lib/liblemonrudder.a", *flags, "-pthread"]
+    if language == "c":
+        compiled(folder, *paths, *linked, "-o", "bank")
+    else:
+        compiled(folder, f"-I{lib}/include", *flags, "-c", *paths)
+        objects = [name.replace(".c", ".o") for name in sources]
+        compiled(folder, os.path.join(EXAMPLES, "bank_durable.cpp"), *objects, *linked, "-o", "bank",
+                 compiler=(tool("g++"), "-std=c++17"))
+    return os.path.join(folder, "bank")
+
+
+def made_of_rust(folder: str) -> str:
+    """The bank in Rust, over the crates that Debian packages."""
+    for name in ("tokio", "rusqlite"):
+        if not glob.glob(os.path.join(rust_test.REGISTRY, f"{name}-[0-9]*")):
+            raise unittest.SkipTest(f"{NEEDS}librust-{name}-dev")
+    tool("cargo")
+    program = rust_test.package("durable", folder, os.path.join(library(), "lib"), *rust_test.OF_REGISTRY)
+    return shutil.copy(program, os.path.join(folder, "bank"))
 
 
 @functools.lru_cache(maxsize=None)
@@ -111,22 +140,22 @@ def python_with(module: str) -> str:
 
 
 class Bank:
-    """A bank in a language, `c` or `py`, over a store: at a port of its own, in one life after another."""
+    """A bank in a language, of `LANGUAGES`, over a store: at a port of its own, in one life after another."""
 
     def __init__(self, language: str, store: str) -> None:
         self.language, self.store, self.port = language, store, free_port()
         is_postgres = store.startswith("postgres")
-        if language == "c":
-            self.folder = made(is_postgres)
-        else:
+        if language == "py":
             self.python = python_with("asyncpg" if is_postgres else "sqlite3")
+        else:
+            self.program = made(language, is_postgres)
         self.process: subprocess.Popen | None = None
         self.errors = tempfile.TemporaryFile("w+")
 
     def words(self, purge: int, late: int) -> list[str]:
         """The words that begin a life."""
-        if self.language == "c":
-            return [os.path.join(self.folder, "bank"), self.store, "127.0.0.1", str(self.port), str(purge)]
+        if self.language != "py":
+            return [self.program, self.store, "127.0.0.1", str(self.port), str(purge)]
         begin = [os.path.join(EXAMPLES, "bank_durable.py")]
         begin = ["-c", LATE_PYTHON, str(late), *begin] if late else begin
         return [self.python, *begin, "--store", self.store, "--port", str(self.port), "--purge", str(purge)]
@@ -136,8 +165,8 @@ class Bank:
         """Begins a life, whose clock is wrong by so many seconds, whose files have so many octets at most, or as another
         user."""
         env = {**os.environ, "BANK_DIES_AT": dies_at, "LATE": str(late)}
-        if late and self.language == "c":
-            env["LD_PRELOAD"] = os.path.join(self.folder, "late.so")
+        if late and self.language != "py":
+            env["LD_PRELOAD"] = late_clock()
 
         def limit() -> None:
             if file_limit:

@@ -1,4 +1,4 @@
-"""Kills the banks of examples/bank_durable.c and .py at each point and by chance, stops them, restarts their databases,
+"""Kills the banks of examples/bank_durable.* at each point and by chance, stops them, restarts their databases,
 and looks whether each call acted once and has one answer.
 
 Each is over SQLite and over PostgreSQL, which the tests start themselves. Clients call meanwhile, over connections that
@@ -24,13 +24,20 @@ try:
 except ImportError:
     sqlite3 = None
 
-# where a bank is killed, by its language
-POINTS = {
-    "c": ["asked", "begun", "looked", "changed", "stored", "committing", "committed", "answered"],
-    "py": ["begun", "changed", "stored", "committed"],
-}
-LANGUAGES = [("in c", "c"), ("in py", "py")]
-EACH_POINT = [(f"{language} {point}", (language, point)) for language, points in POINTS.items() for point in points]
+# where a bank is killed
+POINTS = ["asked", "begun", "looked", "changed", "stored", "committing", "committed", "answered"]
+POINTS_OF_PYTHON = ["begun", "changed", "stored", "committed"]
+# over SQLite; those in C and in Python are over PostgreSQL too
+LANGUAGES = [(f"in {language}", language) for language in durable.LANGUAGES]
+OF_BOTH = [("in c", "c"), ("in py", "py")]
+
+
+def points_of(languages: list[tuple[str, str]]) -> list[tuple[str, tuple[str, str]]]:
+    """Each point of banks in languages."""
+    return [(f"{language} {point}", (language, point)) for _, language in languages
+            for point in (POINTS_OF_PYTHON if language == "py" else POINTS)]
+
+
 # how often a bank is killed by chance: in C it begins at once
 KILLS = {"c": 100, "py": 12}
 
@@ -55,7 +62,7 @@ async def killed_at(bank: Bank, point: str, name: str) -> None:
         bank.begin()
         is_over.set()
         await calling
-        if status != -signal.SIGKILL:
+        if status not in (-signal.SIGKILL, -signal.SIGABRT):
             raise AssertionError(f"it did not die at {point}: {status}")
         await judge(callers, [bank.port])
 
@@ -72,6 +79,23 @@ async def killed_by_chance(bank: Bank, kills: int, dice: random.Random, name: st
             bank.begin()
             if calling.done():
                 break
+        relays[0].is_calm = True
+        is_over.set()
+        await calling
+        await judge(callers, [bank.port])
+
+
+async def handed_over(bank: Bank, times: int, dice: random.Random, name: str) -> None:
+    """A bank ends so often, and hands over to the next."""
+    async with callers_of([bank], 8, dice, name) as (callers, relays):
+        is_over = asyncio.Event()
+        bank.begin()
+        calling = asyncio.ensure_future(call_on(callers, is_over))
+        for _ in range(times):
+            await asyncio.sleep(dice.expovariate(1 / 0.2))
+            status = await asyncio.get_running_loop().run_in_executor(None, bank.end, signal.SIGTERM)
+            assert status == 0, (status, bank.said())
+            bank.begin()
         relays[0].is_calm = True
         is_over.set()
         await calling
@@ -205,7 +229,7 @@ class OverSqlite(unittest.TestCase):
         """Counts the outcomes of a client."""
         return lambda name: self.done(path, "SELECT count(*) FROM outcome WHERE client = ?", name.encode())[0][0]
 
-    @base.each(lambda: EACH_POINT, 2)
+    @base.each(lambda: points_of(LANGUAGES), 2)
     def test_killed_at_each_point(self, given):
         """It is killed at each point, and its outcome is that of the first."""
         with self.bank(given[0]) as bank:
@@ -307,6 +331,16 @@ class OverSqlite(unittest.TestCase):
             self.assertEqual(asyncio.run(answer_of(bank, "client", 1, "deposit", 1, ENDLESS)), 1)
 
 
+class InMemory(unittest.TestCase):
+    """In memory, handed over from one life to the next."""
+
+    @base.each_seed(59, 1)
+    def test_handed_over(self, seed):
+        """No call acts twice, and each has one answer, though no database has them."""
+        with contextlib.contextmanager(folders)() as folder, Bank("py", f"memory:{folder}/bank") as bank:
+            asyncio.run(handed_over(bank, 8, random.Random(seed), "client"))
+
+
 class OverPostgres(unittest.TestCase):
     """Over a PostgreSQL that is started for this."""
 
@@ -322,7 +356,7 @@ class OverPostgres(unittest.TestCase):
     def bank(self, language):
         return Bank(language, self.postgres.address)
 
-    @base.each(lambda: EACH_POINT)
+    @base.each(lambda: points_of(OF_BOTH))
     def test_killed_at_each_point(self, given):
         """It is killed at each point, and its outcome is that of the first."""
         with self.bank(given[0]) as bank:
@@ -340,7 +374,7 @@ class OverPostgres(unittest.TestCase):
         with self.bank("py") as one, self.bank("c") as other:
             asyncio.run(disturbed([one, other], self.postgres, 9, random.Random(seed), f"py {seed} "))
 
-    @base.each(lambda: LANGUAGES)
+    @base.each(lambda: OF_BOTH)
     def test_what_was_taken_out_is_not_performed(self, language):
         """Whatever clock a later life has, or another bank on the same database."""
         def count(name):
@@ -348,7 +382,7 @@ class OverPostgres(unittest.TestCase):
         with self.bank(language) as bank, self.bank(language) as other:
             asyncio.run(forgotten(bank, other, count, f"{language}-forgotten"))
 
-    @base.each(lambda: LANGUAGES)
+    @base.each(lambda: OF_BOTH)
     def test_the_mark_moves_under_a_lock(self, language):
         """What is performed waits for who takes out, and then sees how far; who takes out waits for it."""
         name, near = f"{language}-mark", lr.now() + 1200 * 10**7
@@ -372,7 +406,7 @@ class OverPostgres(unittest.TestCase):
             say("COMMIT")
             until(lambda: self.postgres.asked(count) == "0", "it is taken out")
 
-    @base.each(lambda: LANGUAGES)
+    @base.each(lambda: OF_BOTH)
     def test_what_is_stored_is_answered_first(self, language):
         def keep(name, number, status, order, body):
             self.postgres.asked(f"INSERT INTO outcome VALUES ('{name}', {number}, '\\xffffffffffffffff', "
@@ -380,7 +414,7 @@ class OverPostgres(unittest.TestCase):
         with self.bank(language) as bank:
             asyncio.run(recalled(bank, keep, f"{language}-stored"))
 
-    @base.each(lambda: LANGUAGES)
+    @base.each(lambda: OF_BOTH)
     def test_a_database_that_is_none(self, language):
         """It can't be written, or is of another version; then it can be used."""
         for away, back, line in (
@@ -401,7 +435,7 @@ class OverPostgres(unittest.TestCase):
                     self.postgres.asked(back)
                 until(lambda: asyncio.run(answer_of(bank, name, 3, "deposit", 7, ENDLESS)) == 7, "it is there")
 
-    @base.each(lambda: LANGUAGES)
+    @base.each(lambda: OF_BOTH)
     def test_a_database_that_is_away(self, language):
         """It is declined while it is away, and while it can't be written; then it is performed."""
         name = f"{language}-away"

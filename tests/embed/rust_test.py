@@ -44,15 +44,18 @@ def cargo(target, lib, *words, cwd=CRATE, **environment):
 
 def package(example, target, lib, *words):
     """Builds an example that is a package of its own, and answers the program."""
-    folder = os.path.join(target, "packages", example)
-    # (a copy, since cargo writes beside the manifest which crates it took)
+    packages = os.path.join(target, "packages")
+    folder = os.path.join(packages, example)
+    # (copies, since cargo writes beside a manifest which crates it took)
     made = shutil.ignore_patterns("Cargo.lock", "target")
-    shutil.copytree(os.path.join(CRATE, "examples", example), folder, ignore=made)
-    manifest = os.path.join(folder, "Cargo.toml")
-    with open(manifest, encoding="utf-8") as file:
-        text = file.read().replace('path = "../.."', f"path = {json.dumps(CRATE)}")
-    with open(manifest, "w", encoding="utf-8") as file:
-        file.write(text)
+    shutil.copytree(os.path.join(CRATE, "examples"), packages, ignore=made)
+    for manifest in glob.glob(os.path.join(packages, "*", "Cargo.toml")):
+        with open(manifest, encoding="utf-8") as file:
+            text = file.read().replace('path = "../.."', f"path = {json.dumps(CRATE)}")
+        with open(manifest, "w", encoding="utf-8") as file:
+            file.write(text)
+    with open(os.path.join(folder, "Cargo.toml"), encoding="utf-8") as file:
+        text = file.read()
     status, said = cargo(target, lib, *words, "build", "--offline", cwd=folder)
     if status != 0:
         raise AssertionError(said)

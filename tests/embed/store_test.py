@@ -8,6 +8,7 @@ import asyncio
 import contextlib
 import logging
 import os
+import pickle
 import tempfile
 import unittest
 
@@ -343,6 +344,59 @@ class OverAModel(unittest.IsolatedAsyncioTestCase):
             with self.assertRaises(lr.SystemException):
                 await client.call(KEY, "store", "s", ("a",), "q")
             await client.close()
+
+
+class InMemory(unittest.IsolatedAsyncioTestCase):
+    """In memory, handed over from one store to the next."""
+
+    async def put(self, store, number, expiration=ENDLESS, **changes):
+        async with store.transaction() as state:
+            state.update(changes)
+            await store.put(state, lr.FtRequest(b"c", number, expiration), lr.Outcome(0, 1, bytes([number])))
+
+    async def test_what_is_undone_has_not_been(self):
+        """Nor is it seen before it is committed; what is taken out of the state is gone."""
+        store = lr.MemoryStore()
+        await self.put(store, 1, a=1, b=2)
+        with self.assertRaises(lr.Kept):
+            await self.put(store, 1, a=9, c=9)
+        self.assertEqual(store.state, {"a": 1, "b": 2})
+        async with store.transaction() as state:
+            del state["a"]
+            state["d"] = 4
+            self.assertEqual((dict(state), len(state), "a" in state), ({"b": 2, "d": 4}, 2, False))
+            with self.assertRaises(KeyError):
+                del state["a"]
+            self.assertEqual(store.state, {"a": 1, "b": 2})
+        self.assertEqual(store.state, {"b": 2, "d": 4})
+
+    async def test_handed_over(self):
+        """State, outcomes and W are there; who handed them over does nothing any more."""
+        store = lr.MemoryStore()
+        for number, expiration in ((1, 10), (2, 20), (3, ENDLESS)):
+            await self.put(store, number, expiration, a=number)
+        self.assertEqual(await store.purge(11), 1)
+        async with store.transaction():
+            with self.assertRaises(lr.StoreError):
+                store.hand_over()
+        other = lr.MemoryStore.taken_over(store.hand_over())
+        self.assertEqual(other.state, {"a": 3})
+        self.assertEqual(await other.find(lr.FtRequest(b"c", 2, 20)), lr.Outcome(0, 1, b"\2"))
+        self.assertIsNone(await other.find(lr.FtRequest(b"c", 4, 11)))
+        for expiration in (9, 10):
+            with self.assertRaises(lr.Refuse):
+                await other.find(lr.FtRequest(b"c", 1, expiration))
+            with self.assertRaises(lr.Refuse):
+                await self.put(other, 1, expiration, a=9)
+        for used in (self.put(store, 5), store.find(lr.FtRequest(b"c", 2, 20)), store.purge(99)):
+            with self.assertRaises(lr.StoreError):
+                await used
+
+    def test_what_is_no_store(self):
+        """It can't be read, or is of another version."""
+        for octets in (b"", b"none", lr.MemoryStore().hand_over()[:-4], pickle.dumps((7, {}, [], 0)), pickle.dumps(5)):
+            with self.subTest(octets=octets), self.assertRaises(lr.StoreError):
+                lr.MemoryStore.taken_over(octets)
 
 
 class OverSqlite(unittest.IsolatedAsyncioTestCase):

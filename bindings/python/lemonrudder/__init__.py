@@ -9,6 +9,7 @@ What there is, from the octets up:
     Catalogue, Engine                a server of requests that may be sent again, for a loop of your own
     Server, Client                   both ends over asyncio
     SqliteStore, PostgresStore       where a Server keeps outcomes that outlive it; a Store of your own
+    MemoryStore                      where it keeps them up to its end, or the next process
 
 The shared library is looked for by the environment variable LEMONRUDDER_LIBRARY, a path; else beside this module; else
 by ctypes.util.find_library. Where it is not found, or its version is none for this module, the import fails by
@@ -51,6 +52,7 @@ from ._client import Client
 from ._current import Current, current
 from ._engine import Asked, Engine
 from ._library import LIMIT, PARTIALS, LemonrudderError, moment_of, now
+from ._memory import MemoryStore
 from ._messages import (FT_REQUEST, Assembler, Body, FtRequest, Message, StreamError, messages, write_cancel,
                         write_close, write_error, write_ft, write_locate_reply, write_locate_request, write_reply,
                         write_request)
@@ -69,8 +71,7 @@ __all__ = [
     "BIG", "FT_REQUEST", "LIMIT", "LITTLE", "PARTIALS", "REFERENCE", "VERSION", "Address", "Asked", "Assembler", "Body",
     "Catalogue", "Client", "Completed", "ContextId", "Counted", "Current", "Engine", "Error", "Expired", "Fault",
     "FormatError", "ForwardRequest", "FtRequest", "GiveUp", "Ior", "Kept", "LemonrudderError", "LocateStatus",
-    "Message",
-    "MessageType", "NeedsAddressing", "Operation", "Order", "Outcome", "PostgresStore", "Profile", "RawReply", "Reader",
+    "MemoryStore", "Message", "MessageType", "NeedsAddressing", "Operation", "Order", "Outcome", "PostgresStore", "Profile", "RawReply", "Reader",
     "Refuse", "ReplyStatus", "Server", "Signature", "SqliteStore", "Store", "StoreError", "StreamError",
     "SystemException", "SystemName", "UserException", "Why", "Wish", "Writer", "current", "messages", "moment_of",
     "now", "pack", "type_codes", "unpack", "write_cancel", "write_close", "write_error", "write_ft", "write_locate_reply",

@@ -183,6 +183,12 @@ impl Message<'_> {
         self.part(sys::LR_PART_BODY)
     }
 
+    /// The place of the body's first octet, from which it is aligned.
+    #[must_use]
+    pub fn place(&self) -> u64 {
+        self.said.body_at
+    }
+
     /// Reads the body.
     #[must_use]
     pub fn reader(&self) -> Reader<'_> {

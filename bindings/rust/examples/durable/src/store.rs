@@ -1,0 +1,212 @@
+//! The SQLite file: accounts, the outcomes of requests by their keys, and the mark W, the greatest
+//! expiration that was taken out, plus 1. A request that expires before W is refused, whatever
+//! clocks say.
+
+use lemonrudder::{cdr::Writer, Error, FtRequest, Moment, Order, Outcome, Status};
+use rusqlite::{params, Connection, OptionalExtension};
+use std::time::Duration;
+
+const OVERDRAWN: &str = "IDL:Bank/Overdrawn:1.0";
+const VERSION: i64 = 1;
+const TABLES: &str = "
+    PRAGMA journal_mode = WAL;
+    PRAGMA synchronous = FULL;
+    BEGIN IMMEDIATE;
+    CREATE TABLE IF NOT EXISTS outcome (client BLOB NOT NULL, retention INTEGER NOT NULL,
+        expiration BLOB NOT NULL, status INTEGER NOT NULL, little INTEGER NOT NULL,
+        body BLOB NOT NULL, PRIMARY KEY (client, retention)) WITHOUT ROWID;
+    CREATE INDEX IF NOT EXISTS outcome_by_expiration ON outcome (expiration);
+    CREATE TABLE IF NOT EXISTS forgotten (version INTEGER NOT NULL, moment BLOB NOT NULL);
+    CREATE TABLE IF NOT EXISTS account (name TEXT PRIMARY KEY, balance INTEGER NOT NULL)
+        WITHOUT ROWID;
+    INSERT INTO forgotten SELECT 1, zeroblob(8) WHERE NOT EXISTS (SELECT 1 FROM forgotten);
+    COMMIT;";
+
+/// Why a transaction has to be undone, in a line.
+pub struct Failure(String);
+
+impl From<rusqlite::Error> for Failure {
+    fn from(error: rusqlite::Error) -> Failure {
+        Failure(error.to_string())
+    }
+}
+
+impl From<Error> for Failure {
+    fn from(error: Error) -> Failure {
+        Failure(error.to_string())
+    }
+}
+
+/// What names a request on each of its ways, and up to when it counts.
+pub struct Key {
+    client: Vec<u8>,
+    retention: i32,
+    expiration: u64,
+}
+
+impl Key {
+    pub fn of(said: &FtRequest<'_>) -> Key {
+        let FtRequest { client_id, retention_id, expiration } = said;
+        Key { client: client_id.to_vec(), retention: *retention_id, expiration: expiration.0 }
+    }
+}
+
+/// A file, which is opened again where it failed.
+pub struct Store {
+    path: String,
+    file: Option<Connection>,
+    /// W, in a transaction.
+    least: u64,
+    said: String,
+}
+
+/// A moment as it is stored, so that it compares as octets do.
+fn octets(moment: u64) -> [u8; 8] {
+    moment.to_be_bytes()
+}
+
+fn open(path: &str) -> Result<Connection, Failure> {
+    let file = Connection::open(path)?;
+    file.busy_timeout(Duration::from_secs(5))?;
+    file.execute_batch(TABLES)?;
+    let version =
+        file.query_row("SELECT version FROM forgotten", [], |row| row.get::<_, i64>(0))?;
+    match version {
+        VERSION => Ok(file),
+        _ => Err(Failure(format!("it has outcomes of version {version}, and not {VERSION}"))),
+    }
+}
+
+impl Store {
+    pub fn open(path: String) -> Store {
+        let mut store = Store { path, file: None, least: 0, said: String::new() };
+        if let Err(failure) = store.opened() {
+            store.undo(&failure);
+        }
+        store
+    }
+
+    fn opened(&mut self) -> Result<&Connection, Failure> {
+        let file = match self.file.take() {
+            Some(file) => file,
+            None => open(&self.path)?,
+        };
+        Ok(self.file.insert(file))
+    }
+
+    pub fn begin(&mut self) -> Result<(), Failure> {
+        let file = self.opened()?;
+        file.execute_batch("BEGIN IMMEDIATE")?;
+        let least = file.query_row("SELECT moment FROM forgotten", [], |row| row.get(0))?;
+        self.least = u64::from_be_bytes(least);
+        Ok(())
+    }
+
+    pub fn commit(&mut self) -> Result<(), Failure> {
+        self.opened()?.execute_batch("COMMIT")?;
+        self.said.clear();
+        Ok(())
+    }
+
+    /// Undoes a transaction, and says why, once for each reason. What can't be undone is closed.
+    pub fn undo(&mut self, failure: &Failure) {
+        if self.said != failure.0 {
+            eprintln!("durable-bank: {}", failure.0);
+            self.said.clone_from(&failure.0);
+        }
+        self.file = self
+            .file
+            .take()
+            .filter(|file| file.is_autocommit() || file.execute_batch("ROLLBACK").is_ok());
+    }
+
+    pub fn find(&mut self, key: &Key) -> Result<Option<Outcome>, Failure> {
+        let words = "SELECT status, little, body FROM outcome WHERE client = ? AND retention = ?";
+        let mut statement = self.opened()?.prepare_cached(words)?;
+        let found = statement
+            .query_row(params![key.client, key.retention], |row| {
+                Ok((row.get::<_, u32>(0)?, row.get::<_, bool>(1)?, row.get::<_, Vec<u8>>(2)?))
+            })
+            .optional()?;
+        let Some((status, is_little, body)) = found else { return Ok(None) };
+        let order = if is_little { Order::Little } else { Order::Big };
+        let status =
+            Status::from_number(status).ok_or_else(|| Failure(format!("status {status}")))?;
+        Ok(Some(Outcome { status, order, body }))
+    }
+
+    pub fn keep(&mut self, key: &Key, outcome: &Outcome) -> Result<(), Failure> {
+        let words = "INSERT INTO outcome (client, retention, expiration, status, little, body)
+            VALUES (?, ?, ?, ?, ?, ?)";
+        let is_little = outcome.order == Order::Little;
+        let (expiration, status) = (octets(key.expiration), outcome.status as u32);
+        self.opened()?.prepare_cached(words)?.execute(params![
+            key.client,
+            key.retention,
+            expiration,
+            status,
+            is_little,
+            outcome.body
+        ])?;
+        Ok(())
+    }
+
+    /// Whether it may be that an outcome of it was taken out.
+    pub fn is_forgotten(&self, key: &Key) -> bool {
+        key.expiration < self.least
+    }
+
+    /// Changes the balance of an account: the outcome is the balance, or Overdrawn with it.
+    pub fn change(&mut self, account: &str, amount: i64) -> Result<Outcome, Failure> {
+        let file = self.opened()?;
+        let mut statement = file.prepare_cached("SELECT balance FROM account WHERE name = ?")?;
+        let balance = statement.query_row([account], |row| row.get(0)).optional()?.unwrap_or(0i64);
+        let mut body = Writer::new(Order::Big);
+        let Some(after) = balance.checked_add(amount).filter(|it| *it >= 0) else {
+            body.string(OVERDRAWN)?.longlong(balance)?;
+            return Ok(outcome(Status::UserException, body));
+        };
+        if amount != 0 {
+            let mut statement = file.prepare_cached("REPLACE INTO account VALUES (?, ?)")?;
+            statement.execute(params![account, after])?;
+            super::reach("changed");
+        }
+        body.longlong(after)?;
+        Ok(outcome(Status::NoException, body))
+    }
+
+    /// Takes outcomes out that expired, and moves W.
+    pub fn purge(&mut self) {
+        if self.file.is_none() {
+            return;
+        }
+        if let Err(failure) = self.take_out(Moment::now().0) {
+            self.undo(&failure);
+        }
+    }
+
+    fn take_out(&mut self, moment: u64) -> Result<(), Failure> {
+        self.begin()?;
+        let file = self.opened()?;
+        let words = "SELECT max(expiration) FROM outcome WHERE expiration < ?";
+        let greatest: Option<[u8; 8]> =
+            file.query_row(words, [octets(moment)], |row| row.get(0))?;
+        if let Some(greatest) = greatest.map(u64::from_be_bytes) {
+            let mark = octets(greatest.saturating_add(1));
+            file.execute("UPDATE forgotten SET moment = max(moment, ?)", [mark])?;
+            file.execute("DELETE FROM outcome WHERE expiration < ?", [octets(moment)])?;
+        }
+        self.commit()
+    }
+}
+
+fn outcome(status: Status, body: Writer) -> Outcome {
+    Outcome { status, order: body.order(), body: body.into_octets() }
+}
+
+/// The outcome of `_is_a` and `_non_existent`.
+pub fn is(is_so: bool) -> Result<Outcome, Failure> {
+    let mut body = Writer::new(Order::Big);
+    body.boolean(is_so)?;
+    Ok(outcome(Status::NoException, body))
+}

@@ -1,0 +1,329 @@
+"""Python: FILE_idl.py, which has all, and for each module of the file a package that names what is in it.
+
+Names are those of the OMG's mapping to Python 1.2: the interface M::I is the stub M.I and the servant M__POA.I, and
+what stands in no module is in _GlobalIDL and _GlobalIDL__POA. In FILE_idl.py each has the names of its scopes before
+its own, with _ between.
+"""
+import keyword
+import os
+import re
+from typing import Dict, List, Tuple
+
+from . import model
+
+BASICS = {"boolean": "bool", "char": "str", "float": "float", "double": "float"}
+RUNTIME = {"float": "float_"}
+HEAD = '''"""Made of {file} by omniidl -blemonrudder -Wbpython. Not to be changed by hand."""
+from __future__ import annotations
+
+import abc as _abc
+import builtins as _builtins
+import dataclasses as _dataclasses
+import typing as _typing
+
+from lemonrudder import idl as _idl
+'''
+IGNORED = "  # type: ignore[no-any-return]"
+PACKAGE = '"""Made by omniidl -blemonrudder -Wbpython. Not to be changed by hand."""\n'
+
+
+def identifier(name: str, *others: str) -> str:
+    """A name of IDL in Python: behind `_` where it is a keyword, or has another meaning there."""
+    return f"_{name}" if keyword.iskeyword(name) or name in others else name
+
+
+def flat(scope: Tuple[str, ...]) -> str:
+    """The name of a declaration in FILE_idl.py."""
+    return identifier("_".join(scope))
+
+
+def member(name: str) -> str:
+    return identifier(name, "self", "mro", "args")
+
+
+class Names:
+    """Sees to it that no two declarations have one name."""
+
+    def __init__(self) -> None:
+        self.taken: Dict[str, model.Declared] = {}
+
+    def take(self, name: str, one: model.Declared) -> None:
+        before = self.taken.setdefault(name, one)
+        if before is not one:
+            raise model.Refused([f"{one.file}:{one.line}: {one.idl} and {before.idl} are both {name} in Python"])
+
+
+def hint(type: object) -> str:
+    """The annotation of a type."""
+    if isinstance(type, model.Declared):
+        return flat(type.scope)
+    if isinstance(type, model.Basic):
+        return f"_builtins.{BASICS.get(type.name, 'int')}"
+    if isinstance(type, model.String):
+        return "_builtins.str"
+    if isinstance(type, model.Reference):
+        return "_typing.Optional[_idl.Ior]"
+    inner = model.resolved(type.member)
+    if inner in (model.Basic("octet"), model.Basic("char")):
+        return "_builtins.bytes" if inner.name == "octet" else "_builtins.str"
+    return f"_typing.List[{hint(type.member)}]"
+
+
+def type_of(type: object) -> str:
+    """The expression for a type's reader and writer."""
+    if isinstance(type, model.Declared):
+        return f"_t_{flat(type.scope)}"
+    if isinstance(type, model.Basic):
+        return f"_idl.{RUNTIME.get(type.name, type.name)}"
+    if isinstance(type, model.String):
+        return f"_idl.string({type.bound or ''})"
+    if isinstance(type, model.Reference):
+        return "_idl.reference()"
+    if isinstance(type, model.Sequence):
+        return f"_idl.sequence({type_of(type.member)}{f', {type.bound}' if type.bound else ''})"
+    return f"_idl.array({type_of(type.member)}, {type.size})"
+
+
+def named(types: List[Tuple[str, object]]) -> str:
+    """Names with their types, as a tuple."""
+    found = [f'("{name}", {type_of(type)})' for name, type in types]
+    return f"({', '.join(found)}{',' if len(found) == 1 else ''})"
+
+
+def value_of(value: object, type: object) -> str:
+    """A value of a constant or a label."""
+    if isinstance(value, tuple):
+        made = model.resolved(type)
+        return f"{flat(made.scope)}.{identifier(value[-1], 'mro')}"
+    if model.resolved(type) == model.Basic("boolean"):
+        return str(bool(value))
+    return repr(value)
+
+
+def class_of(one: model.Declared, base: str, members: List[Tuple[str, object]], is_exception: bool) -> List[str]:
+    """The class of a struct or an exception."""
+    name = flat(one.scope)
+    lines = [f"@_dataclasses.dataclass{'(eq=False, repr=False)' if is_exception else ''}", f"class {name}({base}):",
+             f'    """{one.idl}"""', ""]
+    if is_exception:
+        lines.append(f'    _id = "{one.id}"')
+    lines += [f"    {member(inner)}: {hint(type)}" for inner, type in members]
+    return lines
+
+
+def structure(one: model.Declared) -> List[str]:
+    """What stands between the brackets of a structure."""
+    return [f"    {flat(one.scope)},", *(f'    ("{member(name)}", {type_of(type)}),' for name, type in one.members)]
+
+
+def const(one: model.Const) -> List[str]:
+    return [f"{flat(one.scope)}: {hint(one.type)} = {value_of(one.value, one.type)}"]
+
+
+def alias(one: model.Alias) -> List[str]:
+    name = flat(one.scope)
+    return [f"{name} = {hint(one.type)}", f"_t_{name} = {type_of(one.type)}"]
+
+
+def enum(one: model.Enum) -> List[str]:
+    name, prefix = flat(one.scope), one.scope[:-1]
+    items = [identifier(item, "mro") for item in one.names]
+    lines = [f"class {name}(_idl.Enum):", f'    """{one.idl}"""', ""]
+    lines += [f"    {item} = {number}" for number, item in enumerate(items)]
+    lines += ["", "", f"_t_{name} = _idl.enumeration({name})"]
+    # (an enumerator stands in the scope around its enum)
+    return lines + [f"{flat((*prefix, item))} = {name}.{identifier(item, 'mro')}" for item in one.names]
+
+
+def struct(one: model.Struct) -> List[str]:
+    name = flat(one.scope)
+    return [*class_of(one, "_idl.Struct", one.members, False), "", "",
+            f"_t_{name} = _idl.structure(", *structure(one), ")"]
+
+
+def exception(one: model.Exceptional) -> List[str]:
+    name = flat(one.scope)
+    lines = class_of(one, "_idl.UserException", one.members, True)
+    return [*lines, "", "", f"{name}._type = _idl.structure(", *structure(one), ")"]
+
+
+def union(one: model.Union) -> List[str]:
+    name = flat(one.scope)
+    lines = [f"class {name}(_idl.Union):", f'    """{one.idl}"""', ""]
+    lines += [f"    {member(case.name)}: {hint(case.type)}" for case in one.cases]
+    lines += ["", "", f"_t_{name} = _idl.union(", f"    {name}, {type_of(one.switch)},"]
+    for case in one.cases:
+        labels = ["None" if label is None else value_of(label, one.switch) for label in case.labels]
+        one_label = "," if len(labels) == 1 else ""
+        lines.append(f'    (({", ".join(labels)}{one_label}), "{member(case.name)}", {type_of(case.type)}),')
+    return [*lines, ")"]
+
+
+def method_of(operation: model.Operation) -> str:
+    return identifier(operation.name)
+
+
+def result_hint(operation: model.Operation) -> str:
+    hints = [hint(type) for _, type in operation.results]
+    return "None" if not hints else hints[0] if len(hints) == 1 else f"_typing.Tuple[{', '.join(hints)}]"
+
+
+def operation_of(operation: model.Operation) -> str:
+    """The expression for an operation."""
+    parts = [f'"{operation.name}"', f'"{method_of(operation)}"', named(operation.arguments), named(operation.results)]
+    raises = [flat(one.scope) for one in operation.raises]
+    if raises or operation.is_oneway:
+        parts.append(f"({', '.join(raises)}{',' if len(raises) == 1 else ''})")
+    if operation.is_oneway:
+        parts.append("True")
+    return f"_idl.Operation({', '.join(parts)})"
+
+
+def parameters(operation: model.Operation) -> str:
+    return "".join(f", {member(name)}: {hint(type)}" for name, type in operation.arguments)
+
+
+def document(operation: model.Operation) -> str:
+    raises = ", ".join(one.idl for one in operation.raises)
+    return f'        """Raises {raises}."""' if raises else ""
+
+
+def inner_of(one: model.Interface, unit: model.Unit) -> List[str]:
+    """What stands in the scope of an interface, as members of its class."""
+    lines = []
+    for other in unit.declarations:
+        if other.scope[:-1] == one.scope:
+            lines.append(f"    {identifier(other.name)} = {flat(other.scope)}")
+            if isinstance(other, model.Enum):
+                lines += [f"    {identifier(item)} = {flat((*one.scope, item))}" for item in other.names]
+    return lines
+
+
+def interface(one: model.Interface, unit: model.Unit) -> List[str]:
+    """The descriptor of an interface, its stub, and its servant."""
+    name = flat(one.scope)
+    bases = [flat(base.scope) for base in one.bases]
+    listed = ", ".join(f"_i_{base}" for base in bases) + ("," if len(bases) == 1 else "")
+    lines = [f'_i_{name} = _idl.Interface("{one.id}", ({listed}), (']
+    lines += [f"    {operation_of(operation)}," for operation in one.operations]
+    lines += ["))", "", "", f"class {name}({', '.join(bases) or '_idl.Stub'}):",
+              f'    """Calls an object of {one.idl}."""', "", f"    _interface = _i_{name}", *inner_of(one, unit)]
+    for operation in one.operations:
+        values = "".join(f", {member(inner)}" for inner, _ in operation.arguments)
+        lines += ["", f"    async def {method_of(operation)}(self{parameters(operation)}) -> {result_hint(operation)}:"]
+        lines += [text for text in [document(operation)] if text]
+        back = "" if result_hint(operation) == "None" else "return "
+        found = f'self._interface.operations["{operation.name}"]'
+        lines.append(f"        {back}await self._call({found}{values})" + (IGNORED if back else ""))
+    lines += ["", "", f"class _POA_{name}({', '.join(f'_POA_{base}' for base in bases) or '_idl.Servant'}):",
+              f'    """A servant of {one.idl}, whose methods are plain or async."""', "", f"    _interface = _i_{name}"]
+    for operation in one.operations:
+        returns = result_hint(operation)
+        either = f"_typing.Union[{returns}, _typing.Awaitable[{returns}]]"
+        lines += ["", "    @_abc.abstractmethod"]
+        lines.append(f"    def {method_of(operation)}(self{parameters(operation)}) -> {either}:")
+        lines.append(document(operation) or "        ...")
+    return lines
+
+
+def body_of(one: model.Declared, unit: model.Unit) -> List[str]:
+    """The lines of a declaration."""
+    if isinstance(one, model.Interface):
+        return interface(one, unit)
+    makers = {model.Const: const, model.Alias: alias, model.Enum: enum, model.Struct: struct,
+              model.Exceptional: exception, model.Union: union}
+    return makers[type(one)](one)
+
+
+def names_of(one: model.Declared) -> List[Tuple[Tuple[str, ...], str]]:
+    """The names that a declaration has in FILE_idl.py, by its scopes."""
+    found = [(one.scope, flat(one.scope))]
+    if isinstance(one, model.Enum):
+        found += [((*one.scope[:-1], item), flat((*one.scope[:-1], item))) for item in one.names]
+    return found
+
+
+def imports_of(unit: model.Unit) -> List[str]:
+    """The lines that import what stands in files that are included."""
+    files: Dict[str, List[str]] = {}
+    for one in unit.declarations:
+        if not one.is_here:
+            name = flat(one.scope)
+            found = files.setdefault(model.base_of(one.file), [])
+            found += [flat_name for _, flat_name in names_of(one)]
+            if isinstance(one, model.Interface):
+                found += [f"_i_{name}", f"_POA_{name}"]
+            elif not isinstance(one, (model.Const, model.Exceptional)):
+                found.append(f"_t_{name}")
+    lines = []
+    for file, names in files.items():
+        lines += [f"from {module_name(file)} import (", *(f"    {name}," for name in names), ")"]
+    return lines
+
+
+def module_name(base: str) -> str:
+    """The module for a file."""
+    return re.sub(r"\W", "_", base) + "_idl"
+
+
+def module_of(unit: model.Unit) -> str:
+    """FILE_idl.py."""
+    names = Names()
+    lines = [HEAD.format(file=os.path.basename(unit.file)).rstrip(), *imports_of(unit)]
+    for one in unit.declarations:
+        for _, name in names_of(one):
+            names.take(name, one)
+        if one.is_here:
+            spaced = not isinstance(one, (model.Const, model.Alias))
+            lines += ["", "", *body_of(one, unit)] if spaced else ["", *body_of(one, unit)]
+    return re.sub(r"\n\n\n\n+", "\n\n\n", "\n".join(lines) + "\n")
+
+
+def package_of(scope: Tuple[str, ...], is_poa: bool) -> str:
+    """The folder of the package for a module."""
+    first, *rest = scope or ("_GlobalIDL",)
+    return os.path.join(identifier(first) + ("__POA" if is_poa else ""), *map(identifier, rest))
+
+
+def package(name: str, module: str, lines: List[str]) -> Tuple[str, str]:
+    """The __init__.py of a package: what other files put there stays."""
+    path = os.path.join(name, "__init__.py")
+    before: List[str] = []
+    if os.path.exists(path):
+        with open(path, encoding="utf-8") as file:
+            text = file.read()
+        if not text.startswith(PACKAGE):
+            raise model.Refused([f"{path}: it is there, and was not made by omniidl -blemonrudder"])
+        mine = f"from {module} import "
+        before = [line for line in text[len(PACKAGE):].splitlines() if line and not line.startswith(mine)]
+    return path, PACKAGE + "\n".join(dict.fromkeys(before + lines)) + "\n"
+
+
+def packages_of(unit: model.Unit) -> Dict[str, str]:
+    """The packages for the modules of a file."""
+    module = module_name(unit.base)
+    lines: Dict[str, List[str]] = {}
+    interfaces = {one.scope for one in unit.declarations if isinstance(one, model.Interface)}
+    for one in unit.here:
+        scope = one.scope[:-1]
+        if scope in interfaces:
+            continue
+        for names, name in names_of(one):
+            lines.setdefault(package_of(scope, False), []).append(
+                f"from {module} import {name} as {identifier(names[-1])}")
+        if isinstance(one, model.Interface):
+            lines.setdefault(package_of(scope, True), []).append(
+                f"from {module} import _POA_{flat(one.scope)} as {identifier(one.name)}")
+    for scope in unit.modules:
+        for is_poa in (False, True):
+            here = package_of(scope, is_poa)
+            lines.setdefault(here, [])
+            if len(scope) > 1:
+                lines.setdefault(package_of(scope[:-1], is_poa), []).append(f"from . import {identifier(scope[-1])}")
+    # (a struct inside of a struct is named by its flat name alone)
+    known = {package_of(scope, is_poa) for scope in [(), *unit.modules] for is_poa in (False, True)}
+    return dict(package(name, module, found) for name, found in lines.items() if name in known)
+
+
+def files_of(unit: model.Unit) -> Dict[str, str]:
+    return {f"{module_name(unit.base)}.py": module_of(unit), **packages_of(unit)}

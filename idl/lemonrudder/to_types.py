@@ -1,0 +1,62 @@
+"""A table of the types of operations, for `giop trace --types`."""
+from typing import List
+
+from . import model
+
+
+def words(type: object) -> str:
+    """A type, what it is made of before it."""
+    type = model.resolved(type)
+    if isinstance(type, model.Basic):
+        return type.name
+    if isinstance(type, model.String):
+        return f"string:{type.bound}" if type.bound else "string"
+    if isinstance(type, model.Reference):
+        return "object"
+    if isinstance(type, model.Sequence):
+        return f"{words(type.member)} sequence" + (f":{type.bound}" if type.bound else "")
+    if isinstance(type, model.Array):
+        return f"{words(type.member)} array:{type.size}"
+    return f"@{type.id}"
+
+
+def label(value: object, switch: object) -> int:
+    """A label of a union as a number."""
+    switch = model.resolved(switch)
+    if isinstance(switch, model.Enum):
+        return switch.names.index(value[-1])
+    return ord(value) if isinstance(value, str) else int(value)
+
+
+def lines_of(one: model.Declared) -> List[str]:
+    """The lines of a declaration."""
+    if isinstance(one, (model.Struct, model.Exceptional)):
+        head = "struct" if isinstance(one, model.Struct) else "exception"
+        return [f"{head} {one.id}", *(f"member {name} {words(type)}" for name, type in one.members)]
+    if isinstance(one, model.Enum):
+        return [f"enum {one.id}", *(f"name {name}" for name in one.names)]
+    if isinstance(one, model.Union):
+        found = [f"union {one.id} {words(one.switch)}"]
+        for case in one.cases:
+            for value in case.labels:
+                how = "default" if value is None else f"case {label(value, one.switch)}"
+                found.append(f"{how} {case.name} {words(case.type)}")
+        return found
+    if not isinstance(one, model.Interface):
+        return []
+    found = [f"interface {one.id}", *(f"base {base.id}" for base in one.bases)]
+    for operation in one.operations:
+        found.append(f"operation {operation.name}")
+        found += ["oneway"] if operation.is_oneway else []
+        found += [f"in {name} {words(type)}" for name, type in operation.arguments]
+        found += [f"out {name or '-'} {words(type)}" for name, type in operation.results]
+        found += [f"raises {raised.id}" for raised in operation.raises]
+    return found
+
+
+def files_of(unit: model.Unit) -> dict:
+    """FILE.types, which has what is included too."""
+    lines = ["giop-types 1", f"# of {unit.base}.idl"]
+    for one in unit.declarations:
+        lines += lines_of(one)
+    return {f"{unit.base}.types": "\n".join(lines) + "\n"}

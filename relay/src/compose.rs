@@ -1,0 +1,259 @@
+//! Requests and replies as octets (CORBA 3.3 Part 2, 9.4.2 and 9.4.3).
+//!
+//! Values in a body are aligned from the beginning of its message, so a body is written at the place,
+//! modulo 8, at which it came. In 1.2 that is a multiple of 8. In 1.0 and 1.1 it stands where the
+//! header ends, which is moved by a service context that says nothing.
+
+use lemonrudder::cdr::Writer;
+use lemonrudder::{Error, Order, Version, Wish};
+
+/// How many octets a message may have.
+pub const LONGEST: usize = 16 << 20;
+/// The id of the service context that says nothing, of a vendor's range (9.7.1, 7.7.1): who does not
+/// know it passes over it.
+pub const PADDING: u32 = 0x4c52_0000;
+
+const HEADER: usize = 12;
+const REQUEST: u8 = 0;
+const REPLY: u8 = 1;
+
+/// Service contexts: the id and the data of each.
+pub type Contexts = Vec<(u32, Vec<u8>)>;
+
+/// What stands before a body, but the request id.
+#[derive(Clone, Debug, PartialEq, Eq)]
+pub struct Head {
+    pub version: Version,
+    /// The order of the numbers, those of the body among them.
+    pub order: Order,
+    pub wish: Wish,
+    pub key: Vec<u8>,
+    pub operation: Vec<u8>,
+    pub contexts: Contexts,
+}
+
+/// A body, and the place of its first octet.
+#[derive(Clone, Debug, PartialEq, Eq, Default)]
+pub struct Body {
+    pub octets: Vec<u8>,
+    pub place: u64,
+}
+
+/// A Request of this id. None, where it would be too long, or its body can't stand where it has to.
+pub fn request(head: &Head, id: u32, body: &Body) -> Option<Vec<u8>> {
+    moved(body, head.version, |padding| {
+        let mut out = begun(head.version, head.order, REQUEST);
+        if head.version != Version::V12 {
+            put_contexts(&mut out, &head.contexts, padding)?;
+        }
+        out.ulong(id)?.octet(flags_of(head.version, head.wish))?;
+        for _ in 0..if head.version == Version::V10 { 0 } else { 3 } {
+            out.octet(0)?;
+        }
+        if head.version == Version::V12 {
+            out.short(0)?; // (the target is an object key)
+        }
+        out.octets(&head.key)?.string(&head.operation)?;
+        if head.version == Version::V12 {
+            put_contexts(&mut out, &head.contexts, None)?;
+        } else {
+            // (a principal, which nobody reads, moves the body by what is no multiple of 4)
+            out.octets(vec![0; usize::try_from(body.place % 4).unwrap_or(0)])?;
+        }
+        Ok(out.into_octets())
+    })
+}
+
+/// A Reply to the request of this id.
+pub fn reply(
+    version: Version,
+    order: Order,
+    id: u32,
+    status: u32,
+    contexts: &Contexts,
+    body: &Body,
+) -> Option<Vec<u8>> {
+    moved(body, version, |padding| {
+        let mut out = begun(version, order, REPLY);
+        if version != Version::V12 {
+            put_contexts(&mut out, contexts, padding)?;
+        }
+        out.ulong(id)?.ulong(status)?;
+        if version == Version::V12 {
+            put_contexts(&mut out, contexts, None)?;
+        }
+        Ok(out.into_octets())
+    })
+}
+
+/// The header of a message, and a body behind it, in a message of at most [`LONGEST`] octets. The
+/// header is written without a context that says nothing, or with one of so many octets.
+fn moved(
+    body: &Body,
+    version: Version,
+    write: impl Fn(Option<usize>) -> Result<Vec<u8>, Error>,
+) -> Option<Vec<u8>> {
+    let is_at =
+        |header: &Vec<u8>| body.octets.is_empty() || header.len() as u64 % 8 == body.place % 8;
+    let mut octets = write(None).ok()?;
+    if version == Version::V12 && !body.octets.is_empty() {
+        octets.resize(octets.len().next_multiple_of(8), 0);
+    } else if !is_at(&octets) {
+        octets = write(Some(4)).ok()?;
+    }
+    if !is_at(&octets) || octets.len() + body.octets.len() > LONGEST {
+        return None;
+    }
+    octets.extend_from_slice(&body.octets);
+    let is_little = octets[6] & 1 == 1;
+    let size = u32::try_from(octets.len() - HEADER).ok()?;
+    octets[8..HEADER].copy_from_slice(&if is_little {
+        size.to_le_bytes()
+    } else {
+        size.to_be_bytes()
+    });
+    Some(octets)
+}
+
+/// A message that has its header, but for its size.
+fn begun(version: Version, order: Order, kind: u8) -> Writer {
+    let minor = [0, 1, 2][version as usize];
+    let flags = u8::from(order == Order::Little);
+    Writer::of(order, [b"GIOP\x01".as_slice(), &[minor, flags, kind], &[0; 4]].concat())
+}
+
+/// The octet that says which reply is wished (9.4.2.1).
+fn flags_of(version: Version, wish: Wish) -> u8 {
+    match wish {
+        Wish::None => 0,
+        Wish::Empty => 1,
+        Wish::Full if version == Version::V12 => 3,
+        Wish::Full => 1,
+    }
+}
+
+/// A list of service contexts, the last of which says nothing where there is padding.
+fn put_contexts(
+    out: &mut Writer,
+    contexts: &Contexts,
+    padding: Option<usize>,
+) -> Result<(), Error> {
+    let count = contexts.len() + usize::from(padding.is_some());
+    out.ulong(u32::try_from(count).map_err(|_| Error::Long)?)?;
+    for (id, data) in contexts {
+        out.ulong(*id)?.octets(data)?;
+    }
+    if let Some(size) = padding {
+        out.ulong(PADDING)?.octets(vec![0; size])?;
+    }
+    Ok(())
+}
+
+#[cfg(test)]
+mod tests {
+    use super::*;
+    use lemonrudder::{Assembler, Limits, MessageType};
+
+    const VERSIONS: [Version; 3] = [Version::V10, Version::V11, Version::V12];
+    const ORDERS: [Order; 2] = [Order::Big, Order::Little];
+
+    fn head(version: Version, order: Order, key: usize) -> Head {
+        let contexts = vec![(1, vec![7; key % 5]), (13, b"123".to_vec())];
+        let (wish, operation) = (Wish::Full, b"add".to_vec());
+        Head { version, order, wish, key: vec![b'k'; key], operation, contexts }
+    }
+
+    /// Whether it reads again as what it was made of.
+    fn is_read(octets: &[u8], id: u32, body: &Body, contexts: &Contexts) -> bool {
+        let mut assembler = Assembler::open(Limits::default()).unwrap();
+        assert_eq!(assembler.feed(octets), Ok(octets.len()));
+        let mut message = assembler.message().unwrap().unwrap();
+        let found: Contexts = message.contexts().map(Result::unwrap).collect();
+        let found: Contexts = found.into_iter().filter(|(id, _)| *id != PADDING).collect();
+        let is_there = body.octets.is_empty() || message.place() % 8 == body.place % 8;
+        message.request_id() == id
+            && message.body() == body.octets
+            && is_there
+            && &found == contexts
+    }
+
+    #[test]
+    fn a_request_has_its_body_at_its_place() {
+        for version in VERSIONS {
+            for (order, key, place) in ORDERS
+                .into_iter()
+                .flat_map(|order| (0..64).map(move |n| (order, n as usize / 8, n % 8)))
+            {
+                let body = Body { octets: b"abcdefg".to_vec(), place };
+                let head = head(version, order, key);
+                let made = request(&head, 9, &body);
+                if version == Version::V12 && place != 0 {
+                    assert_eq!(made, None);
+                } else {
+                    assert!(
+                        is_read(&made.unwrap(), 9, &body, &head.contexts),
+                        "{version} {key} {place}"
+                    );
+                }
+            }
+        }
+    }
+
+    #[test]
+    fn a_reply_has_its_body_at_its_place() {
+        let contexts = vec![(1, b"12345".to_vec())];
+        for version in VERSIONS {
+            for (order, place) in ORDERS.into_iter().flat_map(|order| [(order, 0), (order, 4)]) {
+                let body = Body { octets: b"abcdefg".to_vec(), place };
+                let made = reply(version, order, 7, 0, &contexts, &body);
+                if version == Version::V12 && place != 0 {
+                    assert_eq!(made, None);
+                } else {
+                    assert!(is_read(&made.unwrap(), 7, &body, &contexts), "{version} {place}");
+                }
+            }
+        }
+    }
+
+    #[test]
+    fn what_has_no_body_stands_anywhere() {
+        for version in VERSIONS {
+            let (head, body) =
+                (head(version, Order::Big, 3), Body { octets: Vec::new(), place: 3 });
+            assert!(is_read(&request(&head, 1, &body).unwrap(), 1, &body, &head.contexts));
+            let none = Contexts::new();
+            assert!(is_read(
+                &reply(version, Order::Big, 1, 0, &none, &body).unwrap(),
+                1,
+                &body,
+                &none
+            ));
+        }
+    }
+
+    #[test]
+    fn a_message_has_sixteen_mebibytes_at_most() {
+        for (size, is_made) in [(LONGEST - 24, true), (LONGEST - 23, false)] {
+            let body = Body { octets: vec![1; size], place: 0 };
+            let made = reply(Version::V12, Order::Big, 7, 0, &Contexts::new(), &body);
+            assert_eq!(made.map(|octets| octets.len()), is_made.then_some(LONGEST));
+        }
+    }
+
+    #[test]
+    fn a_request_is_what_the_standard_says() {
+        let head = Head { contexts: Contexts::new(), ..head(Version::V12, Order::Big, 1) };
+        let body = Body { octets: vec![0, 0, 0, 7], place: 8 };
+        let text = b"GIOP\x01\x02\0\0\0\0\0\x28\0\0\0\x05\x03\0\0\0\0\0\0\0\0\0\0\x01k\0\0\0\0\0\0\x04add\0\
+            \0\0\0\0\0\0\0\0\0\0\0\x07";
+        assert_eq!(request(&head, 5, &body).unwrap(), text);
+        let made = request(&head, 5, &Body::default()).unwrap();
+        assert_eq!(lemonrudder_type(&made), MessageType::Request);
+    }
+
+    fn lemonrudder_type(octets: &[u8]) -> MessageType {
+        let mut assembler = Assembler::open(Limits::default()).unwrap();
+        assembler.feed(octets).unwrap();
+        assembler.message().unwrap().unwrap().message_type()
+    }
+}

@@ -1,0 +1,459 @@
+//! The side of a relay to which clients connect: listeners, peers, and their messages.
+
+use crate::compose;
+use crate::forward::{self, Answer, Request, CODE_SETS};
+use crate::points::point;
+use crate::settings;
+use crate::tls::Acceptor;
+use crate::wire::{self, locked, Stream};
+use lemonrudder::{write, Assembler, Limits, LocateStatus, Message, MessageType, Version, Wish};
+use std::collections::HashMap;
+use std::future::Future;
+use std::net::{IpAddr, SocketAddr};
+use std::pin::Pin;
+use std::sync::{Arc, Mutex};
+use std::time::Duration;
+use tokio::io::{copy, sink, AsyncReadExt, AsyncWriteExt, ReadHalf, WriteHalf};
+use tokio::net::{TcpListener, TcpStream};
+use tokio::select;
+use tokio::sync::{mpsc, oneshot, watch, OwnedSemaphorePermit, Semaphore};
+use tokio::task::{JoinHandle, JoinSet};
+use tokio::time::{sleep, timeout};
+use tracing::{info, warn};
+
+/// What is read and written at once: at first, and where there is so much.
+const SIZES: (usize, usize) = (1 << 12, 1 << 16);
+/// What a peer has to close at the end of its stream; and a pause where nobody can be accepted.
+const LINGER: Duration = Duration::from_secs(2);
+/// How many replies are due to a peer from which on it is not heard.
+const DUE: usize = 64;
+/// How many requests of a connection are under way at most.
+const REQUESTS: u16 = 256;
+
+/// A client's connection.
+#[derive(Debug)]
+pub struct Peer {
+    pub number: u64,
+    pub address: SocketAddr,
+    /// The names in the certificate that it showed.
+    pub names: Vec<String>,
+}
+
+/// A request of a peer.
+pub struct Asked {
+    pub peer: Arc<Peer>,
+    /// Its service contexts have the code sets of the connection, if any were said on it.
+    pub request: Request,
+    /// Comes where the client sends a CancelRequest; fails where it can't any more.
+    pub cancelled: oneshot::Receiver<()>,
+}
+
+/// What is answered, once it is there; none where no reply is wished.
+pub type Answering = Pin<Box<dyn Future<Output = Option<Answer>> + Send>>;
+
+/// What becomes of requests. Each is performed in a task of its own, which goes on where its client
+/// is lost.
+pub trait Role: Send + Sync + 'static {
+    fn perform(self: Arc<Self>, asked: Asked) -> Answering;
+}
+
+/// What peers may take.
+#[derive(Clone, Debug)]
+pub struct Bounds {
+    pub limits: settings::Limits,
+    /// How many requests are under way at most: who has more is not heard until one is answered.
+    pub requests: usize,
+    /// How long what is under way has at the end.
+    pub drain: Duration,
+}
+
+/// The requests of a connection that may be cancelled, by their ids.
+type Cancels = Arc<Mutex<HashMap<u32, oneshot::Sender<()>>>>;
+
+/// What all connections share.
+struct Front<R> {
+    role: Arc<R>,
+    bounds: Bounds,
+    tls: Option<Acceptor>,
+    requests: Arc<Semaphore>,
+    stop: watch::Receiver<bool>,
+    addresses: Mutex<HashMap<IpAddr, usize>>,
+}
+
+/// A peer's place among those of its address.
+struct Place<R>(Arc<Front<R>>, IpAddr);
+
+impl<R> Place<R> {
+    /// A place, if there is one left.
+    fn of(front: &Arc<Front<R>>, address: IpAddr) -> Option<Place<R>> {
+        let mut addresses = locked(&front.addresses);
+        let count = addresses.entry(address).or_default();
+        let is_left = *count < front.bounds.limits.peers_per_address;
+        *count += usize::from(is_left);
+        is_left.then(|| Place(front.clone(), address))
+    }
+}
+
+impl<R> Drop for Place<R> {
+    fn drop(&mut self) {
+        let mut addresses = locked(&self.0.addresses);
+        if let Some(count) = addresses.get_mut(&self.1) {
+            *count -= 1;
+            if *count == 0 {
+                addresses.remove(&self.1);
+            }
+        }
+    }
+}
+
+/// Listens on addresses, each `HOST:PORT`.
+///
+/// # Errors
+///
+/// Says of which it can't.
+pub async fn listen(addresses: &[String]) -> Result<Vec<TcpListener>, String> {
+    let mut listeners = Vec::new();
+    for address in addresses {
+        let listener = TcpListener::bind(address).await;
+        let listener = listener.map_err(|error| format!("{address}: {error}"))?;
+        let at = listener.local_addr().map_err(|error| format!("{address}: {error}"))?;
+        info!(%at, "listening");
+        listeners.push(listener);
+    }
+    Ok(listeners)
+}
+
+/// Serves who connects to the listeners, until a future ends. Then no connection is accepted any
+/// more, what is under way is answered, and CloseConnection is said on each connection.
+pub async fn serve<R: Role>(
+    role: Arc<R>,
+    listeners: Vec<TcpListener>,
+    tls: Option<Acceptor>,
+    bounds: Bounds,
+    stop: impl Future<Output = ()>,
+) {
+    let (stopping, stopped) = watch::channel(false);
+    let requests = Arc::new(Semaphore::new(bounds.requests));
+    let (all, drain) = (u32::try_from(bounds.requests).unwrap_or(u32::MAX), bounds.drain);
+    let peers = Arc::new(Semaphore::new(bounds.limits.peers));
+    let (under_way, addresses) = (requests.clone(), Mutex::default());
+    let front = Front { role, bounds, tls, requests: under_way, stop: stopped, addresses };
+    let front = Arc::new(front);
+    let mut accepting = JoinSet::new();
+    for listener in listeners {
+        accepting.spawn(accepts(front.clone(), listener, peers.clone()));
+    }
+    stop.await;
+    accepting.shutdown().await;
+    _ = stopping.send(true);
+    let ended = timeout(drain, async {
+        _ = requests.acquire_many(all).await;
+        stopping.closed().await;
+    });
+    // (each connection has a receiver, and so has the front)
+    drop(front);
+    if ended.await.is_err() {
+        warn!("the time to end in is over, and something is under way");
+    }
+}
+
+/// Accepts connections of a listener.
+async fn accepts<R: Role>(front: Arc<Front<R>>, listener: TcpListener, peers: Arc<Semaphore>) {
+    static NUMBER: std::sync::atomic::AtomicU64 = std::sync::atomic::AtomicU64::new(1);
+    loop {
+        let Ok(place) = peers.clone().acquire_owned().await else { return };
+        let (socket, address) = match listener.accept().await {
+            Ok(accepted) => accepted,
+            Err(error) => {
+                warn!(%error, "nobody can be accepted");
+                sleep(LINGER).await;
+                continue;
+            }
+        };
+        let number = NUMBER.fetch_add(1, std::sync::atomic::Ordering::Relaxed);
+        let front = front.clone();
+        tokio::spawn(async move {
+            let why = attends(&front, number, socket, address).await;
+            info!(number, peer = %address, why, "connection ended");
+            drop(place);
+        });
+    }
+}
+
+/// Attends to a connection, and answers why it ended.
+async fn attends<R: Role>(
+    front: &Arc<Front<R>>,
+    number: u64,
+    socket: TcpStream,
+    address: SocketAddr,
+) -> &'static str {
+    let limits = &front.bounds.limits;
+    let Some(_place) = Place::of(front, address.ip()) else { return "its address has too many" };
+    let accepted = wire::accept(socket, front.tls.as_ref(), limits.handshake).await;
+    let Ok((stream, names)) = accepted else { return "no handshake" };
+    let peer = Arc::new(Peer { number, address, names });
+    let (mut reading, writing) = tokio::io::split(stream);
+    let (due, dues) = mpsc::channel(DUE);
+    let mut writer = tokio::spawn(writes(writing, dues, limits.stalled));
+    let Ok(assembler) = Assembler::open(limits_of(limits)) else { return "memory is short" };
+    let mut talk = Talk {
+        front: front.clone(),
+        peer,
+        assembler,
+        sets: None,
+        cancels: Cancels::default(),
+        under_way: Arc::new(Semaphore::new(REQUESTS.into())),
+        due,
+    };
+    let why = talk.listens(&mut reading, &mut writer).await;
+    if why.is_lost() {
+        writer.abort();
+        return why.text();
+    }
+    talk.parts(why).await;
+    _ = writer.await;
+    // what still comes means nothing; it is taken, so that what was sent last arrives
+    _ = timeout(LINGER, copy(&mut reading, &mut sink())).await;
+    why.text()
+}
+
+/// The limits of a stream.
+fn limits_of(limits: &settings::Limits) -> Limits {
+    let message = limits.message.min(compose::LONGEST);
+    let partials = (limits.partial / message).clamp(1, 16);
+    let number = |size| u32::try_from(size).unwrap_or(u32::MAX);
+    Limits { message: number(message), partials: number(partials) }
+}
+
+/// Writes what is due to a peer, until nothing can be any more.
+async fn writes(
+    mut half: WriteHalf<Stream>,
+    mut dues: mpsc::Receiver<Vec<u8>>,
+    patience: Duration,
+) {
+    while let Some(mut octets) = dues.recv().await {
+        while octets.len() < SIZES.1 {
+            let Ok(more) = dues.try_recv() else { break };
+            octets.extend(more);
+        }
+        let written = timeout(patience, async {
+            half.write_all(&octets).await?;
+            half.flush().await
+        });
+        if !matches!(written.await, Ok(Ok(()))) {
+            return;
+        }
+        point("answered");
+    }
+    _ = timeout(LINGER, half.shutdown()).await;
+}
+
+/// Why a connection ends.
+#[derive(Clone, Copy, Debug, PartialEq, Eq)]
+enum Why {
+    Closed,
+    Failed,
+    Unwritten,
+    Idle,
+    Goodbye,
+    Error,
+    Fault,
+    Direction,
+    Memory,
+    Stop,
+}
+
+impl Why {
+    fn text(self) -> &'static str {
+        match self {
+            Why::Closed => "the peer closed it",
+            Why::Failed => "its socket failed",
+            Why::Unwritten => "the peer takes nothing",
+            Why::Idle => "it was idle",
+            Why::Goodbye => "the peer said CloseConnection",
+            Why::Error => "the peer said MessageError",
+            Why::Fault => "what came is no GIOP, or too long",
+            Why::Direction => "the peer sent what only a server sends",
+            Why::Memory => "memory is short",
+            Why::Stop => "the relay ends",
+        }
+    }
+
+    /// Whether nothing can be sent any more.
+    fn is_lost(self) -> bool {
+        matches!(self, Why::Failed | Why::Unwritten)
+    }
+}
+
+/// A connection, its messages, and what is under way of it.
+struct Talk<R> {
+    front: Arc<Front<R>>,
+    peer: Arc<Peer>,
+    assembler: Assembler,
+    /// The code sets that were said on it.
+    sets: Option<Vec<u8>>,
+    cancels: Cancels,
+    under_way: Arc<Semaphore>,
+    due: mpsc::Sender<Vec<u8>>,
+}
+
+/// What a message wants.
+enum Heard {
+    Performed(Box<Request>, u32),
+    Answered(Vec<u8>),
+    Nothing,
+}
+
+impl<R: Role> Talk<R> {
+    /// Hears a peer until the connection ends.
+    async fn listens(&mut self, half: &mut ReadHalf<Stream>, writer: &mut JoinHandle<()>) -> Why {
+        let mut stop = self.front.stop.clone();
+        let mut room = vec![0; SIZES.0];
+        loop {
+            let read = select! {
+                _ = stop.wait_for_true() => return Why::Stop,
+                _ = &mut *writer => return Why::Unwritten,
+                read = timeout(self.front.bounds.limits.idle, half.read(&mut room)) => read,
+            };
+            let size = match read {
+                Err(_) if self.is_quiet() => return Why::Idle,
+                Err(_) => continue,
+                Ok(Ok(0)) => return Why::Closed,
+                Ok(Ok(size)) => size,
+                Ok(Err(_)) => return Why::Failed,
+            };
+            if let Err(why) = self.takes(&room[..size]).await {
+                return why;
+            }
+            if size == room.len() {
+                room.resize(SIZES.1, 0);
+            } else if size < SIZES.0 / 2 && room.len() > SIZES.0 {
+                room = vec![0; SIZES.0];
+            }
+        }
+    }
+
+    /// Whether nothing is under way.
+    fn is_quiet(&self) -> bool {
+        self.under_way.available_permits() == usize::from(REQUESTS)
+    }
+
+    /// Takes octets that came.
+    async fn takes(&mut self, mut octets: &[u8]) -> Result<(), Why> {
+        while !octets.is_empty() {
+            let fed = self.assembler.feed(octets).map_err(|_| Why::Fault)?;
+            octets = &octets[fed..];
+            let heard = match self.assembler.message() {
+                Ok(Some(mut message)) => heard(&mut message, &mut self.sets, &self.cancels)?,
+                Ok(None) => Heard::Nothing,
+                Err(_) => return Err(Why::Memory),
+            };
+            match heard {
+                Heard::Performed(request, id) => self.performs(*request, id).await,
+                Heard::Answered(octets) => _ = self.due.send(octets).await,
+                Heard::Nothing => {}
+            }
+        }
+        Ok(())
+    }
+
+    /// Has a request performed, once there is room for one more.
+    async fn performs(&mut self, request: Request, id: u32) {
+        let places = (self.under_way.clone(), self.front.requests.clone());
+        let (Ok(own), Ok(any)) = (places.0.acquire_owned().await, places.1.acquire_owned().await)
+        else {
+            return;
+        };
+        let (cancel, cancelled) = oneshot::channel();
+        locked(&self.cancels).insert(id, cancel);
+        let (version, wish) = (request.head.version, request.head.wish);
+        let asked = Asked { peer: self.peer.clone(), request, cancelled };
+        let answering = self.front.role.clone().perform(asked);
+        let (cancels, due) = (self.cancels.clone(), self.due.clone());
+        tokio::spawn(async move {
+            let answer = answering.await;
+            locked(&cancels).remove(&id);
+            if let Some(answer) = answer.filter(|_| wish != Wish::None) {
+                _ = due.send(answer.reply(version, id)).await;
+            }
+            drop::<(OwnedSemaphorePermit, OwnedSemaphorePermit)>((own, any));
+        });
+    }
+
+    /// Ends a connection: what is under way is answered first, where the peer can hear that.
+    async fn parts(self, why: Why) {
+        let last = match why {
+            Why::Fault | Why::Direction => write::message_error(),
+            Why::Idle | Why::Stop => {
+                _ = self.under_way.acquire_many(REQUESTS.into()).await;
+                write::close_connection()
+            }
+            _ => return,
+        };
+        if let Ok(octets) = last {
+            _ = self.due.send(octets).await;
+        }
+    }
+}
+
+/// What a message means that came on a connection.
+fn heard(
+    message: &mut Message<'_>,
+    sets: &mut Option<Vec<u8>>,
+    cancels: &Cancels,
+) -> Result<Heard, Why> {
+    let id = message.request_id();
+    Ok(match message.message_type() {
+        MessageType::Request => asked(message, sets)?,
+        MessageType::LocateRequest => {
+            let (version, order) = (message.version(), message.order());
+            let here = write::locate_reply(version, order, id, LocateStatus::ObjectHere);
+            Heard::Answered(here.map_err(|_| Why::Memory)?)
+        }
+        MessageType::CancelRequest => {
+            if let Some(cancel) = locked(cancels).remove(&id) {
+                _ = cancel.send(());
+            }
+            Heard::Nothing
+        }
+        MessageType::CloseConnection => return Err(Why::Goodbye),
+        MessageType::MessageError => return Err(Why::Error),
+        MessageType::Fragment => Heard::Nothing,
+        MessageType::Reply | MessageType::LocateReply => return Err(Why::Direction),
+    })
+}
+
+/// What a Request means.
+fn asked(message: &mut Message<'_>, sets: &mut Option<Vec<u8>>) -> Result<Heard, Why> {
+    let (id, version) = (message.request_id(), message.version());
+    let mut request = match forward::request_of(message) {
+        Ok(request) => request,
+        Err(_) if message.wish() == Some(Wish::None) => return Ok(Heard::Nothing),
+        Err(outcome) => return Ok(Heard::Answered(Answer::from(outcome).reply(version, id))),
+    };
+    let contexts = &mut request.head.contexts;
+    match contexts.iter().find(|(id, _)| *id == CODE_SETS) {
+        Some((_, data)) => *sets = Some(data.clone()),
+        // (GIOP 1.0 has none)
+        None if version != Version::V10 => {
+            contexts.extend(sets.clone().map(|data| (CODE_SETS, data)))
+        }
+        None => {}
+    }
+    Ok(Heard::Performed(Box::new(request), id))
+}
+
+/// Waits until something is to stop.
+trait Stops {
+    async fn wait_for_true(&mut self);
+}
+
+impl Stops for watch::Receiver<bool> {
+    async fn wait_for_true(&mut self) {
+        while !*self.borrow() {
+            if self.changed().await.is_err() {
+                return;
+            }
+        }
+    }
+}

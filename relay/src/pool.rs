@@ -1,0 +1,449 @@
+//! Connections to a server, or to a guard: requests that are outstanding on them, and their replies.
+//!
+//! Each request gets an id of its own on its connection. Requests with the same code sets share
+//! connections, since those belong to a connection (CORBA 3.3 Part 2, 7.10.2.5).
+
+use crate::compose::{self, Body, Contexts, Head};
+use crate::forward::{self, CODE_SETS};
+use crate::points::point;
+use crate::tls::Connector;
+use crate::wire::{self, locked, Stream};
+use lemonrudder::{write, Assembler, Limits, MessageType, Order, Version, Wish};
+use std::collections::HashMap;
+use std::io;
+use std::sync::atomic::{AtomicU32, AtomicU64, Ordering};
+use std::sync::{Arc, Mutex};
+use std::time::{Duration, Instant};
+use tokio::io::{AsyncReadExt, AsyncWriteExt, ReadHalf, WriteHalf};
+use tokio::sync::{mpsc, oneshot};
+use tokio::task::JoinHandle;
+use tokio::time::{sleep_until, timeout};
+use tracing::{info, warn};
+
+/// What is written at once, where there is so much.
+const BATCH: usize = 1 << 16;
+/// A peer has to take what is due to it within this time.
+const UNWRITTEN: Duration = Duration::from_secs(60);
+/// The pause after the first attempt to connect that failed, and the longest.
+const PAUSES: (Duration, Duration) = (Duration::from_millis(50), Duration::from_secs(2));
+/// For how many code sets there are connections.
+const CLASSES: usize = 64;
+
+/// Why a request has no reply.
+#[derive(Clone, Copy, Debug, PartialEq, Eq)]
+pub enum Loss {
+    /// Nothing of it was sent.
+    Unsent,
+    /// The peer said CloseConnection before it replied: it has not performed it (9.4.7).
+    Closed,
+    /// The connection was lost: nobody knows.
+    Lost,
+    /// It would be longer than a message may be; nothing of it was sent.
+    Long,
+}
+
+/// A reply as it came.
+#[derive(Clone, Debug, PartialEq, Eq)]
+pub struct Reply {
+    /// Its status, by its number.
+    pub status: u32,
+    pub order: Order,
+    pub contexts: Contexts,
+    pub body: Body,
+}
+
+/// What came of a request; no reply, where none was wished.
+type Ending = Result<Option<Reply>, Loss>;
+
+/// What is to be written.
+enum Due {
+    Request { id: u32, wish: Wish, octets: Vec<u8>, ended: oneshot::Sender<Ending> },
+    Octets(Vec<u8>),
+}
+
+/// The requests of a connection that wait for their replies.
+#[derive(Default)]
+struct Waiting {
+    is_over: bool,
+    requests: HashMap<u32, oneshot::Sender<Ending>>,
+}
+
+/// A connection.
+struct Line {
+    next: AtomicU32,
+    due: mpsc::UnboundedSender<Due>,
+    waiting: Mutex<Waiting>,
+}
+
+/// Connections for requests of the same code sets.
+#[derive(Default)]
+struct Class {
+    lines: Mutex<Vec<Arc<Line>>>,
+    opening: tokio::sync::Mutex<Opening>,
+}
+
+/// What is known of the last attempts to connect.
+#[derive(Default)]
+struct Opening {
+    failed: Option<Instant>,
+    pause: Duration,
+}
+
+/// Where servers are: their addresses, each read anew for each connection.
+pub trait Places: Send + Sync {
+    /// The addresses, each `HOST:PORT`, in the order in which they are tried.
+    fn addresses(&self) -> Vec<String>;
+}
+
+impl Places for Vec<String> {
+    fn addresses(&self) -> Vec<String> {
+        self.clone()
+    }
+}
+
+/// Connections to one server, or to what stands for it.
+pub struct Pool {
+    places: Box<dyn Places>,
+    tls: Option<Connector>,
+    /// How many connections there are at most, of each class.
+    most: usize,
+    /// For how long a connection may be without requests.
+    idle: Duration,
+    classes: Mutex<HashMap<Vec<u8>, Arc<Class>>>,
+    strays: AtomicU64,
+}
+
+/// A request that was handed to a connection.
+pub struct Pending {
+    ended: oneshot::Receiver<Ending>,
+    line: Arc<Line>,
+    id: u32,
+    form: (Version, Order),
+}
+
+impl Pool {
+    #[must_use]
+    pub fn new(
+        places: Box<dyn Places>,
+        tls: Option<Connector>,
+        most: usize,
+        idle: Duration,
+    ) -> Arc<Pool> {
+        let (classes, strays) = (Mutex::default(), AtomicU64::new(0));
+        Arc::new(Pool { places, tls, most: most.max(1), idle, classes, strays })
+    }
+
+    /// How many replies came for which nobody waits any more.
+    #[must_use]
+    pub fn strays(&self) -> u64 {
+        self.strays.load(Ordering::Relaxed)
+    }
+
+    /// Whether a connection is there, or can be.
+    pub async fn is_there(self: &Arc<Self>) -> bool {
+        self.line(&[]).await.is_ok()
+    }
+
+    /// A connection of its own, to an address.
+    ///
+    /// # Errors
+    ///
+    /// As of [`wire::connect`].
+    pub async fn connects(&self, address: &str) -> io::Result<Stream> {
+        wire::connect(address, self.tls.as_ref()).await
+    }
+
+    /// Hands a request to a connection.
+    ///
+    /// # Errors
+    ///
+    /// `Unsent`, where there is no connection, and `Long`.
+    pub async fn send(self: &Arc<Self>, head: &Head, body: &Body) -> Result<Pending, Loss> {
+        let sets = head.contexts.iter().find(|(id, _)| *id == CODE_SETS);
+        let line = self.line(sets.map_or(&[], |(_, data)| data)).await?;
+        let id = line.next.fetch_add(1, Ordering::Relaxed);
+        let octets = compose::request(head, id, body).ok_or(Loss::Long)?;
+        let (ended, end) = oneshot::channel();
+        let due = Due::Request { id, wish: head.wish, octets, ended };
+        line.due.send(due).map_err(|_| Loss::Unsent)?;
+        Ok(Pending { ended: end, line, id, form: (head.version, head.order) })
+    }
+
+    /// A connection for requests with these code sets: the one with the fewest outstanding, or a
+    /// new one.
+    async fn line(self: &Arc<Self>, sets: &[u8]) -> Result<Arc<Line>, Loss> {
+        let class = self.class(sets)?;
+        if let Some((line, is_busy)) = class.best(self.most) {
+            if is_busy {
+                let (pool, class) = (self.clone(), class.clone());
+                tokio::spawn(async move {
+                    if let Ok(mut opening) = class.opening.try_lock() {
+                        _ = pool.open(&class, &mut opening).await;
+                    }
+                });
+            }
+            return Ok(line);
+        }
+        let since = Instant::now();
+        let mut opening = class.opening.lock().await;
+        if let Some((line, _)) = class.best(self.most) {
+            return Ok(line);
+        }
+        if opening.failed.is_some_and(|failed| failed > since) {
+            return Err(Loss::Unsent);
+        }
+        self.open(&class, &mut opening).await
+    }
+
+    /// The connections for these code sets.
+    fn class(&self, sets: &[u8]) -> Result<Arc<Class>, Loss> {
+        let mut classes = locked(&self.classes);
+        if let Some(class) = classes.get(sets) {
+            return Ok(class.clone());
+        }
+        if classes.len() >= CLASSES {
+            classes.retain(|_, class| {
+                Arc::strong_count(class) > 1 || !locked(&class.lines).is_empty()
+            });
+        }
+        if classes.len() >= CLASSES {
+            return Err(Loss::Unsent);
+        }
+        Ok(classes.entry(sets.to_vec()).or_default().clone())
+    }
+
+    /// Opens one connection more, after a pause where the last attempt failed.
+    async fn open(
+        self: &Arc<Self>,
+        class: &Arc<Class>,
+        opening: &mut Opening,
+    ) -> Result<Arc<Line>, Loss> {
+        if let Some(failed) = opening.failed {
+            sleep_until((failed + opening.pause).into()).await;
+        }
+        for address in self.places.addresses() {
+            match wire::connect(&address, self.tls.as_ref()).await {
+                Ok(stream) => {
+                    *opening = Opening::default();
+                    return Ok(self.begin(class, address, stream));
+                }
+                Err(error) => warn!(server = %address, %error, "not connected"),
+            }
+        }
+        opening.failed = Some(Instant::now());
+        opening.pause = (opening.pause * 2).clamp(PAUSES.0, PAUSES.1);
+        Err(Loss::Unsent)
+    }
+
+    /// Begins with a connection.
+    fn begin(self: &Arc<Self>, class: &Arc<Class>, address: String, stream: Stream) -> Arc<Line> {
+        info!(server = %address, "connected");
+        let (reading, writing) = tokio::io::split(stream);
+        let (due, dues) = mpsc::unbounded_channel();
+        let line = Arc::new(Line { next: AtomicU32::new(1), due, waiting: Mutex::default() });
+        locked(&class.lines).push(line.clone());
+        let writer = tokio::spawn(writes(line.clone(), writing, dues));
+        let (pool, class, read) = (self.clone(), class.clone(), line.clone());
+        tokio::spawn(async move {
+            let (why, loss) = reads(&pool, &read, reading, &writer).await;
+            info!(server = %address, why, "ended");
+            locked(&class.lines).retain(|line| !Arc::ptr_eq(line, &read));
+            read.end(loss);
+            writer.abort();
+        });
+        line
+    }
+}
+
+impl Class {
+    /// The connection with the fewest outstanding requests, and whether there should be one more.
+    fn best(&self, most: usize) -> Option<(Arc<Line>, bool)> {
+        let lines = locked(&self.lines);
+        let loads = lines.iter().filter_map(|line| Some((line.load()?, line)));
+        let (load, line) = loads.min_by_key(|(load, _)| *load)?;
+        Some((line.clone(), load > 0 && lines.len() < most))
+    }
+}
+
+impl Line {
+    /// How many requests wait, unless it is over.
+    fn load(&self) -> Option<usize> {
+        let waiting = locked(&self.waiting);
+        (!waiting.is_over).then_some(waiting.requests.len())
+    }
+
+    /// Ends what waits.
+    fn end(&self, loss: Loss) {
+        let mut waiting = locked(&self.waiting);
+        waiting.is_over = true;
+        for (_, ended) in waiting.requests.drain() {
+            _ = ended.send(Err(loss));
+        }
+    }
+
+    /// Ends a connection on which nothing waits: whether nothing did.
+    fn ends_idle(&self) -> bool {
+        let mut waiting = locked(&self.waiting);
+        waiting.is_over = waiting.requests.is_empty();
+        waiting.is_over
+    }
+
+    /// Notes a request that is to be written now: false where the connection is over.
+    fn notes(&self, id: u32, ended: oneshot::Sender<Ending>) -> bool {
+        let mut waiting = locked(&self.waiting);
+        if !waiting.is_over {
+            waiting.requests.insert(id, ended);
+        }
+        !waiting.is_over
+    }
+
+    /// Takes octets and requests until there are enough to be written: those that wish no reply.
+    fn gather(
+        &self,
+        first: Due,
+        dues: &mut mpsc::UnboundedReceiver<Due>,
+        octets: &mut Vec<u8>,
+    ) -> Vec<oneshot::Sender<Ending>> {
+        let (mut next, mut quiet) = (Some(first), Vec::new());
+        while let Some(due) = next {
+            match due {
+                Due::Octets(more) => octets.extend(more),
+                Due::Request { ended, .. } if ended.is_closed() => {} // (nobody waits any more)
+                Due::Request { wish: Wish::None, octets: more, ended, .. } => {
+                    octets.extend(more);
+                    quiet.push(ended);
+                }
+                Due::Request { id, octets: more, ended, .. } => {
+                    if self.notes(id, ended) {
+                        octets.extend(more);
+                    }
+                }
+            }
+            next = if octets.len() < BATCH { dues.try_recv().ok() } else { None };
+        }
+        quiet
+    }
+}
+
+/// Writes what is due on a connection, until it is over.
+async fn writes(
+    line: Arc<Line>,
+    mut half: WriteHalf<Stream>,
+    mut dues: mpsc::UnboundedReceiver<Due>,
+) {
+    let mut octets = Vec::new();
+    while let Some(first) = dues.recv().await {
+        octets.clear();
+        let quiet = line.gather(first, &mut dues, &mut octets);
+        let written = timeout(UNWRITTEN, async {
+            half.write_all(&octets).await?;
+            half.flush().await
+        });
+        let is_written = matches!(written.await, Ok(Ok(())));
+        if is_written {
+            point("sent");
+        }
+        for ended in quiet {
+            _ = ended.send(if is_written { Ok(None) } else { Err(Loss::Lost) });
+        }
+        if !is_written {
+            line.end(Loss::Lost);
+            return;
+        }
+        octets.shrink_to(BATCH);
+    }
+}
+
+/// Reads replies of a connection until it is over, and answers why, and what became of the requests
+/// that wait.
+async fn reads(
+    pool: &Pool,
+    line: &Line,
+    mut half: ReadHalf<Stream>,
+    writer: &JoinHandle<()>,
+) -> (&'static str, Loss) {
+    let message = u32::try_from(compose::LONGEST).unwrap_or(u32::MAX);
+    let limits = Limits { message, partials: 16 };
+    let Ok(mut assembler) = Assembler::open(limits) else {
+        return ("memory is short", Loss::Unsent);
+    };
+    let mut room = vec![0; BATCH];
+    loop {
+        let size = match timeout(pool.idle, half.read(&mut room)).await {
+            Ok(Ok(0)) => return ("it was closed without a goodbye", Loss::Lost),
+            Ok(Ok(size)) => size,
+            Ok(Err(error)) => return (named(&error), Loss::Lost),
+            Err(_) if line.ends_idle() => return ("it was idle", Loss::Unsent),
+            Err(_) if writer.is_finished() => return ("it takes nothing", Loss::Lost),
+            Err(_) => continue,
+        };
+        if let Err(end) = takes(pool, line, &mut assembler, &room[..size]) {
+            return end;
+        }
+    }
+}
+
+/// What an error of a socket is called.
+fn named(error: &io::Error) -> &'static str {
+    match error.kind() {
+        io::ErrorKind::ConnectionReset => "it was reset",
+        _ => "its socket failed",
+    }
+}
+
+/// Takes octets that came on a connection: it ends where it answers an error.
+fn takes(
+    pool: &Pool,
+    line: &Line,
+    assembler: &mut Assembler,
+    mut octets: &[u8],
+) -> Result<(), (&'static str, Loss)> {
+    while !octets.is_empty() {
+        let fed = assembler
+            .feed(octets)
+            .map_err(|_| ("what came is no GIOP, or too long", Loss::Lost))?;
+        octets = &octets[fed..];
+        let message = assembler.message().map_err(|_| ("memory is short", Loss::Lost))?;
+        let Some(mut message) = message else { continue };
+        match message.message_type() {
+            MessageType::Reply => {
+                let ended = locked(&line.waiting).requests.remove(&message.request_id());
+                let Some(ended) = ended else {
+                    pool.strays.fetch_add(1, Ordering::Relaxed);
+                    continue;
+                };
+                _ = ended.send(Ok(Some(forward::reply_of(&mut message))));
+            }
+            MessageType::CloseConnection => return Err(("it said CloseConnection", Loss::Closed)),
+            MessageType::MessageError => return Err(("it said MessageError", Loss::Lost)),
+            MessageType::LocateReply | MessageType::Fragment => {}
+            _ => return Err(("it sent what only a client sends", Loss::Lost)),
+        }
+    }
+    Ok(())
+}
+
+impl Pending {
+    /// Its reply; none where none was wished, and it was sent.
+    ///
+    /// # Errors
+    ///
+    /// All but `Long`.
+    pub async fn reply(&mut self) -> Ending {
+        (&mut self.ended).await.unwrap_or(Err(Loss::Unsent))
+    }
+
+    /// Tells the server that nobody waits for it any more.
+    pub fn cancel(self) {
+        if let Ok(octets) = write::cancel_request(self.form.0, self.form.1, self.id) {
+            _ = self.line.due.send(Due::Octets(octets));
+        }
+    }
+}
+
+/// A reply that comes later is dropped.
+impl Drop for Pending {
+    fn drop(&mut self) {
+        locked(&self.line.waiting).requests.remove(&self.id);
+    }
+}

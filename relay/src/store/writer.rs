@@ -1,0 +1,344 @@
+//! What writes to a database: it takes steps from all tasks, and makes those that wait together
+//! one transaction. Who comes while one is being written waits for the next.
+
+use super::{Begun, Error, Key, Outcome};
+use std::collections::{HashMap, HashSet, VecDeque};
+use std::future::Future;
+use std::mem;
+use std::sync::atomic::{AtomicBool, Ordering};
+use std::sync::Arc;
+use std::thread;
+use std::time::Duration;
+use tokio::runtime::Builder;
+use tokio::select;
+use tokio::sync::mpsc::{unbounded_channel, UnboundedReceiver, UnboundedSender};
+use tokio::sync::oneshot;
+use tokio::time::{sleep_until, Instant};
+use tracing::{error, info};
+
+/// Steps of one transaction at most.
+const MOST: usize = 1024;
+/// How long after a failure the database is tried again.
+const PAUSE: Duration = Duration::from_millis(200);
+
+/// A step of a request, or a purge.
+#[derive(Clone, Debug)]
+pub enum Step {
+    Begin(Key, u64),
+    Finish(Key, Outcome),
+    Undo(Key),
+    /// The moment before which what is taken out expired, and how many were taken out by now.
+    Purge(u64, u64),
+    /// The last step: this guard lives no more.
+    Close,
+}
+
+/// What came of a step.
+#[derive(Debug)]
+pub enum Done {
+    Begun(Begun),
+    /// It is begun by a guard that lives: it is to be looked at again once that is told.
+    Waits,
+    /// It went between two looks: it is to be looked at again.
+    Again,
+    Finished(Result<Outcome, Error>),
+    Undone,
+    /// How many were taken out by now, and whether there are more.
+    Purged(u64, bool),
+    Closed,
+}
+
+/// A database, as its writer uses it.
+pub trait Database {
+    /// Takes steps in one transaction. Where it fails it is not known whether it took them.
+    fn write(&mut self, steps: &[Step]) -> impl Future<Output = Result<Vec<Done>, Error>>;
+
+    /// Waits until what other guards do is to be looked at.
+    fn told(&mut self) -> impl Future<Output = ()>;
+
+    /// Whether it is to be looked at by now.
+    fn is_told(&mut self) -> bool;
+}
+
+/// What a caller is given of its step.
+type Given = Result<(Done, Option<Held>), Error>;
+
+/// A step that waits, and who is told of it.
+struct Job {
+    step: Step,
+    caller: Option<oneshot::Sender<Given>>,
+}
+
+impl Job {
+    fn tell(self, given: Given) {
+        if let Some(caller) = self.caller {
+            // (who is gone drops what is held, and that undoes it)
+            _ = caller.send(given);
+        }
+    }
+}
+
+/// A request that is begun for a caller, and undone where the caller is gone before it knows.
+struct Held {
+    key: Key,
+    jobs: UnboundedSender<Job>,
+    is_known: bool,
+}
+
+impl Drop for Held {
+    fn drop(&mut self) {
+        if !self.is_known {
+            let step = Step::Undo(self.key.clone());
+            _ = self.jobs.send(Job { step, caller: None });
+        }
+    }
+}
+
+/// What gives steps to a writer.
+pub struct Steps {
+    jobs: UnboundedSender<Job>,
+    is_ready: Arc<AtomicBool>,
+}
+
+impl Steps {
+    async fn ask(&self, step: Step) -> Given {
+        let (caller, answer) = oneshot::channel();
+        let closed = || Error::Away("the store is closed".into());
+        self.jobs.send(Job { step, caller: Some(caller) }).map_err(|_| closed())?;
+        answer.await.map_err(|_| closed())?
+    }
+
+    pub async fn begin(&self, key: &Key, expiration: u64) -> Result<Begun, Error> {
+        match self.ask(Step::Begin(key.clone(), expiration)).await? {
+            (Done::Begun(begun), held) => {
+                if let Some(mut held) = held {
+                    held.is_known = true;
+                }
+                Ok(begun)
+            }
+            (other, _) => Err(unasked(&other)),
+        }
+    }
+
+    pub async fn finish(&self, key: &Key, outcome: Outcome) -> Result<Outcome, Error> {
+        match self.ask(Step::Finish(key.clone(), outcome)).await? {
+            (Done::Finished(finished), _) => finished,
+            (other, _) => Err(unasked(&other)),
+        }
+    }
+
+    pub async fn undo(&self, key: &Key) -> Result<(), Error> {
+        self.ask(Step::Undo(key.clone())).await.map(drop)
+    }
+
+    pub async fn purge(&self, now: u64) -> Result<u64, Error> {
+        match self.ask(Step::Purge(now, 0)).await? {
+            (Done::Purged(count, _), _) => Ok(count),
+            (other, _) => Err(unasked(&other)),
+        }
+    }
+
+    pub async fn close(&self) {
+        _ = self.ask(Step::Close).await;
+    }
+
+    pub fn is_ready(&self) -> bool {
+        self.is_ready.load(Ordering::Relaxed)
+    }
+}
+
+impl Drop for Steps {
+    fn drop(&mut self) {
+        _ = self.jobs.send(Job { step: Step::Close, caller: None });
+    }
+}
+
+fn unasked(done: &Done) -> Error {
+    Error::Away(format!("the store answers {done:?}, which was not asked"))
+}
+
+/// Opens a database in a thread of its own, and begins to write to it.
+///
+/// # Errors
+///
+/// As `open` says; or there is no thread for it.
+pub async fn start<D: Database>(
+    open: impl FnOnce() -> Result<D, Error> + Send + 'static,
+) -> Result<Steps, Error> {
+    let (jobs, waiting) = unbounded_channel();
+    let (opened, answer) = oneshot::channel();
+    let is_ready = Arc::new(AtomicBool::new(false));
+    let steps = Steps { jobs: jobs.clone(), is_ready: is_ready.clone() };
+    let unusable = |error: &dyn std::error::Error| Error::Unusable(error.to_string());
+    let runtime = Builder::new_current_thread().enable_all().build();
+    let runtime = runtime.map_err(|error| unusable(&error))?;
+    let thread = thread::Builder::new().name("store".into()).spawn(move || {
+        let _entered = runtime.enter();
+        match open() {
+            Ok(database) => {
+                let writer = Writer::new(database, jobs, is_ready);
+                _ = opened.send(Ok(()));
+                runtime.block_on(writer.run(waiting));
+            }
+            Err(error) => _ = opened.send(Err(error)),
+        }
+    });
+    thread.map_err(|error| unusable(&error))?;
+    answer.await.map_err(|error| unusable(&error))??;
+    Ok(steps)
+}
+
+/// What writes to a database.
+struct Writer<D> {
+    database: D,
+    jobs: UnboundedSender<Job>,
+    is_ready: Arc<AtomicBool>,
+    /// What comes next.
+    queue: VecDeque<Job>,
+    /// Who wait for what another request or guard has begun.
+    waiting: HashMap<Key, Vec<Job>>,
+    /// What callers of this guard have begun.
+    begun: HashSet<Key>,
+    /// Why it can't be written, and when it is tried again.
+    trouble: Option<Error>,
+    next: Instant,
+    is_closed: bool,
+}
+
+impl<D: Database> Writer<D> {
+    fn new(database: D, jobs: UnboundedSender<Job>, is_ready: Arc<AtomicBool>) -> Writer<D> {
+        Writer {
+            database,
+            jobs,
+            is_ready,
+            queue: VecDeque::new(),
+            waiting: HashMap::new(),
+            begun: HashSet::new(),
+            trouble: None,
+            next: Instant::now(),
+            is_closed: false,
+        }
+    }
+
+    async fn run(mut self, mut jobs: UnboundedReceiver<Job>) {
+        // (what is wrong shows before anybody asks)
+        self.write(Vec::new()).await;
+        while !self.is_closed {
+            if self.trouble.is_some() {
+                self.decline();
+                select! {
+                    () = sleep_until(self.next) => {}
+                    Some(job) = jobs.recv() => {
+                        self.queue.push_back(job);
+                        continue;
+                    }
+                }
+            } else if self.queue.is_empty() {
+                select! {
+                    () = self.database.told() => self.look_again(),
+                    Some(job) = jobs.recv() => self.queue.push_back(job),
+                }
+            }
+            if self.database.is_told() {
+                self.look_again();
+            }
+            while let Ok(job) = jobs.try_recv() {
+                self.queue.push_back(job);
+            }
+            let batch = self.queue.drain(..self.queue.len().min(MOST)).collect();
+            self.write(batch).await;
+        }
+    }
+
+    /// All who wait look again.
+    fn look_again(&mut self) {
+        self.queue.extend(mem::take(&mut self.waiting).into_values().flatten());
+    }
+
+    /// Tells those who need the database now that it is away. What is begun waits.
+    fn decline(&mut self) {
+        let Some(why) = &self.trouble else { return };
+        for job in mem::take(&mut self.queue) {
+            match job.step {
+                Step::Finish(..) | Step::Undo(_) => self.queue.push_back(job),
+                Step::Begin(..) | Step::Purge(..) => job.tell(Err(why.clone())),
+                Step::Close => {
+                    self.is_closed = true;
+                    job.tell(Ok((Done::Closed, None)));
+                }
+            }
+        }
+    }
+
+    /// Writes steps in one transaction.
+    async fn write(&mut self, batch: Vec<Job>) {
+        let steps: Vec<Step> = batch.iter().map(|job| job.step.clone()).collect();
+        match self.database.write(&steps).await {
+            Ok(dones) => {
+                if self.trouble.take().is_some() {
+                    info!("the store can be written again");
+                }
+                self.is_ready.store(true, Ordering::Relaxed);
+                for (job, done) in batch.into_iter().zip(dones) {
+                    self.done(job, done);
+                }
+            }
+            Err(why) => {
+                if self.trouble.as_ref() != Some(&why) {
+                    error!("the store: {why}");
+                }
+                self.is_ready.store(false, Ordering::Relaxed);
+                self.failed(batch);
+                self.trouble = Some(why);
+                self.next = Instant::now() + PAUSE;
+            }
+        }
+    }
+
+    /// What comes of a step that was taken.
+    fn done(&mut self, job: Job, done: Done) {
+        let mut held = None;
+        match (&job.step, &done) {
+            (Step::Begin(key, _), Done::Waits) => {
+                self.waiting.entry(key.clone()).or_default().push(job);
+                return;
+            }
+            (Step::Begin(key, _), Done::Begun(Begun::New)) => {
+                self.begun.insert(key.clone());
+                let (key, jobs) = (key.clone(), self.jobs.clone());
+                held = Some(Held { key, jobs, is_known: false });
+            }
+            (Step::Finish(key, _) | Step::Undo(key), _) => {
+                self.begun.remove(key);
+                self.queue.extend(self.waiting.remove(key).into_iter().flatten());
+            }
+            (Step::Purge(now, _), Done::Purged(count, true)) => {
+                let step = Step::Purge(*now, *count);
+                self.queue.push_back(Job { step, ..job });
+                return;
+            }
+            (_, Done::Again) => {
+                self.queue.push_back(job);
+                return;
+            }
+            (Step::Close, _) => self.is_closed = true,
+            _ => {}
+        }
+        job.tell(Ok((done, held)));
+    }
+
+    /// Steps of which it is not known whether they were taken. They come again: those that begin
+    /// are undone, where it is not this guard's caller who had begun that request before.
+    fn failed(&mut self, batch: Vec<Job>) {
+        for job in batch.into_iter().rev() {
+            let undo = match &job.step {
+                Step::Begin(key, _) if !self.begun.contains(key) => Some(Step::Undo(key.clone())),
+                _ => None,
+            };
+            if let Some(step) = undo {
+                self.queue.push_front(Job { step, caller: None });
+            }
+            self.queue.push_back(job);
+        }
+    }
+}

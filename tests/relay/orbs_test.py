@@ -1,0 +1,151 @@
+"""Unmodified clients and servers of omniORB, with two relays between them, whose link loses, and which are killed.
+
+The server keeps a line of each call that it performs. Each call has to be performed at most once, what its client is
+told has to be true, and MAYBE has to be explained by a kill. `./test --relay` makes 100,000 calls; else it is some
+hundreds.
+"""
+from __future__ import annotations
+
+import os
+import random
+import signal
+import time
+import unittest
+
+from tests import base
+from tests.relay import relays
+from tests.relay.relays import Calling, judge, results_differ, world
+
+# where each role is killed, and how often MAYBE is told then to a client that makes one call after another
+GUARD_POINTS = {"before-begin": 0, "begun": 1, "sent": 1, "received": 1, "finished": 0, "answered": 0}
+RETRY_POINTS = {"asked": 1, "sent": 1, "completed": 1}
+POINTS = [(f"{role} {point}", (role, point, maybe)) for role, points in
+          (("guard", GUARD_POINTS), ("retry", RETRY_POINTS)) for point, maybe in points.items()]
+# how many calls are made while all is disturbed
+CALLS = int(os.environ.get("RELAY_CALLS", "300"))
+THREADS = 8
+
+
+def ended_by_itself(calling: Calling, life: relays.Life) -> bool:
+    """Waits until a life has ended by itself, or the calls are over; whether it has."""
+    while not life.died() and not calling.is_over():
+        time.sleep(0.002)
+    return life.died()
+
+
+class Orbs(unittest.TestCase):
+    """omniORB at both ends."""
+
+    @classmethod
+    def setUpClass(cls):
+        relays.program()
+        relays.orbs()
+
+    def test_all_that_they_say_passes(self):
+        """Wide characters, long octets, exceptions, one way calls, and a reference in a reply, which leads through."""
+        with world(random.Random(1)) as made:
+            answers = made.calls("talk", 0, kind="talk").answers()
+            self.assertEqual(judge(answers, made.server.performed()), {"returned": 1, "refused": 1})
+            for kind, told in (("0", "returned"), ("refuse", "refused"), ("tell", "returned")):
+                with self.subTest(kind):
+                    answers = made.calls(kind, 20, 4, kind).answers()
+                    self.assertEqual(judge(answers, made.server.performed() if kind != "tell" else
+                                           {token: 1 for token in answers}), {told: 20})
+            made.settle()
+            self.assertEqual(set(made.server.performed().values()), {1})
+            self.assertEqual(sum(token.startswith("tell.") for token in made.server.performed()), 20)
+
+    def test_one_that_is_slow_holds_up_nobody(self):
+        """32 calls of a second each, at once, take as long as a few: omniORB's server has threads enough."""
+        with world(random.Random(1)) as made:
+            slow = made.calls("slow", 32, 32, "1000")
+            quick = made.calls("quick", 50, 1).answers()
+            self.assertFalse(slow.is_over())
+            self.assertEqual(judge({**slow.answers(), **quick}, made.server.performed()), {"returned": 82})
+
+    @base.each_seed(61, 1)
+    def test_a_link_that_loses(self, seed):
+        """Each call acts once, and returns: nothing is MAYBE where nobody is killed."""
+        with world(random.Random(seed), is_calm=False) as made:
+            answers = made.calls("call", CALLS, THREADS).answers()
+            told = made.calls("told", CALLS // 4, THREADS, "tell").answers()
+            made.link.is_calm = True
+            made.settle()
+            performed = made.server.performed()
+            self.assertEqual(judge({**answers, **told}, performed), {"returned": CALLS + CALLS // 4})
+            self.assertEqual(len(performed), CALLS + CALLS // 4)
+            results_differ(answers)
+            self.assertGreater(made.link.cuts, 3)
+
+    @base.each(lambda: POINTS)
+    def test_killed_at_each_point(self, given):
+        """A relay dies at a point, at its fifth call, and is begun again over its store."""
+        role, point, maybe = given
+        with world(random.Random(1)) as made:
+            life = getattr(made, role)
+            life.end(signal.SIGTERM)
+            life.begin(f"{point}:5")
+            calling = made.calls("call", 15)
+            self.assertTrue(ended_by_itself(calling, life), "it did not die there")
+            self.assertEqual(life.end(), -signal.SIGABRT)
+            life.begin()
+            answers = calling.answers()
+            made.settle()
+            told = judge(answers, made.server.performed(), maybe)
+            self.assertEqual(sum(count for words, count in told.items() if words.endswith("MAYBE")), maybe, told)
+
+    def test_a_server_that_is_killed(self):
+        """Who waits for it is told MAYBE; it is begun again, and others are served."""
+        with world(random.Random(1)) as made:
+            calling = made.calls("call", 60, 4, "20")
+            relays.giop_peers.until(lambda: len(calling.lines) > 8, "calls are made")
+            made.server.end()
+            made.server.begin()
+            answers = calling.answers()
+            made.settle()
+            told = judge(answers, made.server.performed(), 4)
+            self.assertGreaterEqual(told["returned"], 50, told)
+
+    @base.each_seed(67, 1)
+    def test_all_at_once(self, seed):
+        """The link loses, and relays and server are killed and stopped by chance."""
+        dice = random.Random(seed)
+        with world(dice, is_calm=False) as made:
+            calling, kills = made.calls("call", CALLS, THREADS), 0
+            lives = [made.guard, made.guard, made.retry, made.server]
+            while not calling.is_over():
+                time.sleep(dice.expovariate(1 / 0.4))
+                life = dice.choice(lives)
+                if dice.random() < 0.3:
+                    life.tell(signal.SIGSTOP)
+                    time.sleep(dice.uniform(0.05, 0.3))
+                    life.tell(signal.SIGCONT)
+                else:
+                    life.end()
+                    life.begin()
+                    kills += 1
+            made.link.is_calm = True
+            answers = calling.answers()
+            made.settle()
+            told = judge(answers, made.server.performed(), kills * THREADS)
+            self.assertEqual(len(answers), CALLS)
+            self.assertGreater(told["returned"], CALLS // 4, told)
+            print(f"seed {seed}: {kills} kills, {made.link.cuts} cuts: {dict(told)}")
+
+    def test_what_ends_in_order_answers_first(self):
+        """At SIGTERM what is under way is answered, and then the connection is closed in order: nobody is told MAYBE."""
+        for role in ("retry", "guard"):
+            with self.subTest(role), world(random.Random(1)) as made:
+                calling = made.calls("call", 40, 4, "30")
+                relays.giop_peers.until(lambda: len(calling.lines) > 8, "calls are made")
+                life = getattr(made, role)
+                self.assertEqual(life.end(signal.SIGTERM), 0)
+                life.begin()
+                answers = calling.answers()
+                made.settle()
+                told = judge(answers, made.server.performed())
+                self.assertGreaterEqual(told["returned"], 20, told)
+
+
+if __name__ == "__main__":
+    unittest.main()

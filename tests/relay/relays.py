@@ -1,0 +1,338 @@
+"""What the tests of the relays stand on: the program, ORBs at both ends, links that lose, and lives that end at points."""
+from __future__ import annotations
+
+import asyncio
+import collections
+import contextlib
+import functools
+import glob
+import json
+import os
+import random
+import re
+import shutil
+import signal
+import socket
+import struct
+import subprocess
+import tempfile
+import threading
+import time
+import unittest
+from collections.abc import Iterator
+
+from tests import giop_peers
+from tests.programs import NEEDS, ROOT, library, tool
+
+HERE = os.path.join(ROOT, "tests", "relay")
+REGISTRY = "/usr/share/cargo/registry"
+# the crates that are not in the repository, by the folders that Debian packages give
+CRATES = {"tokio": "librust-tokio-dev", "clap": "librust-clap-dev", "rusqlite": "librust-rusqlite-dev",
+          "tokio-postgres": "librust-tokio-postgres-dev", "tokio-openssl": "librust-tokio-openssl-dev",
+          "prometheus": "librust-prometheus-dev", "toml": "librust-toml-dev", "serde": "librust-serde-dev",
+          "tracing-subscriber": "librust-tracing-subscriber-dev"}
+# how long anything may take on a busy machine
+SECONDS = 120
+# a long message passes omniORB as well
+LONG = ["-ORBgiopMaxMsgSize", "16777216"]
+
+
+@functools.lru_cache(maxsize=None)
+def program() -> str:
+    """The program `lemonrudder`: the one that LEMONRUDDER names, or one that is built in out/relay."""
+    if os.environ.get("LEMONRUDDER"):
+        return os.path.abspath(os.environ["LEMONRUDDER"])
+    tool("cargo")
+    lacking = [debian for crate, debian in CRATES.items() if not glob.glob(f"{REGISTRY}/{crate}-[0-9]*")]
+    if lacking:
+        raise unittest.SkipTest(NEEDS + ", ".join(lacking))
+    target = os.path.join(ROOT, "out", "relay")
+    words = ["cargo", "build", "--offline", "--config", 'source.crates-io.replace-with = "debian"',
+             "--config", f"source.debian.directory = {json.dumps(REGISTRY)}"]
+    env = {**os.environ, "CARGO_TARGET_DIR": target, "LEMONRUDDER_LIB_DIR": os.path.join(library(), "lib")}
+    ran = subprocess.run(words, cwd=os.path.join(ROOT, "relay"), env=env, stdin=subprocess.DEVNULL,
+                         stdout=subprocess.PIPE, stderr=subprocess.STDOUT, text=True, check=False)
+    if ran.returncode != 0:
+        raise AssertionError(ran.stdout)
+    return os.path.join(target, "debug", "lemonrudder")
+
+
+@functools.lru_cache(maxsize=None)
+def orbs() -> str:
+    """The folder of a client and a server of omniORB."""
+    if not os.path.exists("/usr/include/omniORB4/CORBA.h"):
+        raise unittest.SkipTest(NEEDS + "libomniorb4-dev")
+    folder = tempfile.mkdtemp(prefix="orbs-")
+    commands = [[tool("omniidl"), "-bcxx", os.path.join(HERE, "calls.idl")]]
+    for name in ("server", "client"):
+        commands.append([tool("g++"), "-std=c++17", "-O0", "-I.", "-o", name, os.path.join(HERE, f"orb_{name}.cc"),
+                         "callsSK.cc", "-lomniORB4", "-lomnithread", "-pthread"])
+    for words in commands:
+        ran = subprocess.run(words, cwd=folder, capture_output=True, text=True, check=False)
+        if ran.returncode != 0:
+            raise AssertionError(ran.stderr)
+    return folder
+
+
+def free_port() -> int:
+    return giop_peers.free_port()
+
+
+class Life:
+    """A program that is begun, ended and begun again."""
+
+    def __init__(self, *words: str) -> None:
+        self.words = words
+        self.process: subprocess.Popen | None = None
+        self.log = tempfile.TemporaryFile("w+")
+
+    def begin(self, dies_at: str = "") -> None:
+        """Begins a life, which ends by itself at a point where one is named."""
+        env = {**os.environ, "LEMONRUDDER_KILL": dies_at}
+        self.process = subprocess.Popen(self.words, stdin=subprocess.DEVNULL, stdout=subprocess.PIPE, stderr=self.log,
+                                        text=True, env=env)
+
+    def tell(self, number: int) -> None:
+        self.process.send_signal(number)
+
+    def end(self, number: int = signal.SIGKILL) -> int:
+        """Ends a life, and answers its status."""
+        if self.process is None:
+            return 0
+        with self.process:
+            if self.process.poll() is None:
+                self.process.send_signal(number)
+            return self.process.wait(SECONDS)
+
+    def died(self) -> bool:
+        """Whether the life has ended by itself."""
+        return self.process is not None and self.process.poll() is not None
+
+    def said(self) -> str:
+        """What it has said of itself, in all its lives."""
+        self.log.seek(0)
+        return self.log.read()
+
+    def __enter__(self) -> Life:
+        return self
+
+    def __exit__(self, *error: object) -> None:
+        if self.process is not None and self.process.poll() is None:
+            self.process.send_signal(signal.SIGCONT)
+        self.end()
+        if error[0] is not None:
+            print(f"{self.words[:2]} said:\n{self.said()[-3000:]}")
+        self.log.close()
+
+
+class Relay(Life):
+    """A relay in a role, at a port of its own."""
+
+    def __init__(self, role: str, *words: str, port: int | None = None) -> None:
+        self.port = port or free_port()
+        super().__init__(program(), role, "--listen", f"127.0.0.1:{self.port}", *words)
+
+    def begin(self, dies_at: str = "") -> None:
+        super().begin(dies_at)
+        end = time.monotonic() + SECONDS
+        while not self.died():
+            with contextlib.suppress(ConnectionRefusedError), socket.create_connection(("127.0.0.1", self.port)):
+                return
+            if end < time.monotonic():
+                raise AssertionError("it does not listen")
+            time.sleep(0.005)
+        raise AssertionError(f"it did not begin: {self.said()}")
+
+
+class Server(Life):
+    """A server of omniORB that keeps what it performed in a file; its references lead to another port."""
+
+    def __init__(self, folder: str, published: int) -> None:
+        self.port, self.file = free_port(), os.path.join(folder, "performed")
+        ends = ["-ORBendPoint", f"giop:tcp:127.0.0.1:{self.port}"]
+        ends += ["-ORBendPointPublish", f"giop:tcp:127.0.0.1:{published}"]
+        super().__init__(os.path.join(orbs(), "server"), self.file, *ends, *LONG)
+
+    def begin(self, dies_at: str = "") -> None:
+        super().begin(dies_at)
+        self.reference = self.process.stdout.readline().strip()
+        if not self.reference.startswith("IOR:"):
+            raise AssertionError(f"the server did not begin: {self.said()}")
+
+    def performed(self) -> collections.Counter:
+        """How often it performed the call of each token, in all its lives."""
+        if not os.path.exists(self.file):
+            return collections.Counter()
+        with open(self.file, encoding="ascii") as file:
+            return collections.Counter(file.read().split())
+
+
+class Calling:
+    """An unmodified client of omniORB that makes so many calls, by so many threads."""
+
+    def __init__(self, reference: str, name: str, count: int, threads: int = 1, kind: str = "0") -> None:
+        words = [os.path.join(orbs(), "client"), reference, name, str(count), str(threads), kind, *LONG]
+        self.process = subprocess.Popen(words, stdin=subprocess.DEVNULL, stdout=subprocess.PIPE,
+                                        stderr=subprocess.STDOUT, text=True)
+        self.lines: list[str] = []
+        self.reader = threading.Thread(target=self.read, daemon=True)
+        self.reader.start()
+
+    def read(self) -> None:
+        for line in self.process.stdout:
+            self.lines.append(line.rstrip("\n"))
+
+    def is_over(self) -> bool:
+        return self.process.poll() is not None
+
+    def answers(self, seconds: int = 20 * SECONDS) -> dict[str, str]:
+        """What each call was answered, by its token, once it is over."""
+        try:
+            status = self.process.wait(seconds)
+        finally:
+            self.process.kill()
+            self.process.wait()
+            self.reader.join()
+            self.process.stdout.close()
+        if status != 0:
+            raise AssertionError(f"the client ended by {status}: {self.lines[-5:]}")
+        return dict(line.split(" ", 1) for line in self.lines)
+
+
+class Link:
+    """A way to a port that loses: connections are cut after some octets, reset, or slow, by chance."""
+
+    def __init__(self, target: int, dice: random.Random, is_calm: bool = False) -> None:
+        self.target, self.dice, self.is_calm = target, dice, is_calm
+        self.cuts = 0
+        self.loop = asyncio.new_event_loop()
+        self.thread = threading.Thread(target=self.run, daemon=True)
+        self.is_ready = threading.Event()
+
+    def run(self) -> None:
+        asyncio.set_event_loop(self.loop)
+        server = self.loop.run_until_complete(asyncio.start_server(self.serve, "127.0.0.1", 0))
+        self.port = server.sockets[0].getsockname()[1]
+        self.is_ready.set()
+        self.loop.run_forever()
+        server.close()
+        for task in asyncio.all_tasks(self.loop):
+            task.cancel()
+        self.loop.run_until_complete(asyncio.sleep(0.01))
+        self.loop.close()
+
+    def __enter__(self) -> Link:
+        self.thread.start()
+        self.is_ready.wait(SECONDS)
+        return self
+
+    def __exit__(self, *_: object) -> None:
+        self.loop.call_soon_threadsafe(self.loop.stop)
+        self.thread.join(SECONDS)
+
+    async def serve(self, reader: asyncio.StreamReader, writer: asyncio.StreamWriter) -> None:
+        try:
+            there, onward = await asyncio.open_connection("127.0.0.1", self.target)
+        except OSError:
+            writer.transport.abort()
+            return
+        left = [1 << 60 if self.is_calm or self.dice.random() < 0.2 else self.dice.randrange(20_000)]
+        ways = [asyncio.ensure_future(self.hand_on(*way, left)) for way in ((reader, onward), (there, writer))]
+        try:
+            await asyncio.wait(ways, return_when=asyncio.FIRST_COMPLETED)
+        finally:
+            for way in ways:
+                way.cancel()
+            self.cuts += left[0] <= 0
+            for one in (writer, onward):
+                self.leave(one)
+
+    def leave(self, one: asyncio.StreamWriter) -> None:
+        """Closes an end, half of the time by a reset."""
+        if self.dice.random() < 0.5:
+            one.get_extra_info("socket").setsockopt(socket.SOL_SOCKET, socket.SO_LINGER, struct.pack("ii", 1, 0))
+            one.transport.abort()
+        else:
+            one.close()
+
+    async def hand_on(self, source: asyncio.StreamReader, sink: asyncio.StreamWriter, left: list[int]) -> None:
+        with contextlib.suppress(OSError):
+            while left[0] > 0:
+                octets = await source.read(1 << 16)
+                if not octets:
+                    break
+                if not self.is_calm and self.dice.random() < 0.05:
+                    await asyncio.sleep(self.dice.random() * 0.02)
+                sink.write(octets[:max(0, left[0])])
+                left[0] -= len(octets)
+                await sink.drain()
+
+
+class World:
+    """An unmodified client and server of omniORB, two relays between them, and a link between these."""
+
+    def __init__(self, folder: str, dice: random.Random, *, store: str = "", is_calm: bool = True,
+                 timeout: int = SECONDS) -> None:
+        self.retry_port = free_port()
+        self.server = Server(folder, self.retry_port)
+        self.guard = Relay("guard", "--server", f"127.0.0.1:{self.server.port}", "--timeout", str(timeout),
+                           "--store", store or os.path.join(folder, "outcomes.sqlite"))
+        self.link = Link(self.guard.port, dice, is_calm)
+        self.timeout = timeout
+        self.stack = contextlib.ExitStack()
+
+    def __enter__(self) -> World:
+        self.stack.enter_context(self.link)
+        self.retry = Relay("retry", "--guard", f"127.0.0.1:{self.link.port}", "--timeout", str(self.timeout),
+                           port=self.retry_port)
+        for life in (self.server, self.guard, self.retry):
+            self.stack.enter_context(life)
+            life.begin()
+        return self
+
+    def __exit__(self, *error: object) -> None:
+        self.stack.__exit__(*error)
+
+    def calls(self, name: str, count: int, threads: int = 1, kind: str = "0") -> Calling:
+        return Calling(self.server.reference, name, count, threads, kind)
+
+    def settle(self) -> None:
+        """Has both relays end what is under way."""
+        for life in (self.retry, self.guard):
+            if not life.died():
+                life.end(signal.SIGTERM)
+
+
+@contextlib.contextmanager
+def world(dice: random.Random, **others: object) -> Iterator[World]:
+    """Such a world in a folder of its own."""
+    with tempfile.TemporaryDirectory(prefix="relay-") as folder, World(folder, dice, **others) as made:
+        yield made
+
+
+def judge(answers: dict[str, str], performed: collections.Counter, most_maybe: int = 0) -> collections.Counter:
+    """Looks whether each call acted at most once, and whether what was told is true. Answers how often each was told."""
+    told: collections.Counter = collections.Counter()
+    twice = {token: count for token, count in performed.items() if count > 1}
+    if twice:
+        raise AssertionError(f"performed more than once: {twice}")
+    for token, answer in answers.items():
+        words = answer.split()
+        if words[0] in ("returned", "refused"):
+            is_true = performed[token] == 1 and (words[0] == "returned" or words[1] == token)
+        else:
+            is_true = words[1] == "MAYBE" or words[1] == "NO" and performed[token] == 0
+        if not is_true:
+            raise AssertionError(f"{token} was told {answer}, and performed {performed[token]} times")
+        told[words[0] if words[0] in ("returned", "refused") else answer] += 1
+    maybe = sum(count for words, count in told.items() if words.endswith("MAYBE"))
+    if maybe > most_maybe:
+        raise AssertionError(f"MAYBE was told {maybe} times, and at most {most_maybe} are explained: {told}")
+    return told
+
+
+def results_differ(answers: dict[str, str]) -> None:
+    """Each call that returned has the result of no other."""
+    results = [answer for answer in answers.values() if re.match(r"returned \d", answer)]
+    if len(set(results)) != len(results):
+        raise AssertionError("two calls were answered by one result")
