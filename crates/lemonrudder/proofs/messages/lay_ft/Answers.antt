@@ -18,4 +18,4 @@ returns-in_err-write_ft c =
     let a = c.args in
     let octets = ft_octets a.order a.client.now a.retention_id a.expiration in
     subst (λ r. counted octets octets a.room.now a.room.now r) (sym (from_err _ _ c.from_residual-in_err-write_ft.ensures.1))
-    (octets_unwritten _ _ octets a.room.now _ _ _ refl (ft_size a.order a.client.now a.retention_id a.expiration ∙ ap ft_end (sym c.count_of.ensures) ∙ sym c.ft_end.ensures) c.in_ok-check_room.ensures c.in_err-write_ft.ensures)
+    (octets_unwritten _ _ octets a.room.now c.new-out.result.items c.write_ft.new.out.items c.in_err-write_ft.field-0.0 refl (ft_size a.order a.client.now a.retention_id a.expiration ∙ ap ft_end (sym c.count_of.ensures) ∙ sym c.ft_end.ensures) c.in_ok-check_room.ensures c.in_err-write_ft.ensures)
