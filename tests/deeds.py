@@ -2,8 +2,8 @@
 
 A list is requests for the counter, one or more in a piece, and what the owner does of each, by a seed; what is parked
 is settled or withdrawn later, and meanwhile the counter is hidden, or taken away all the same, and offered again, and
-the ids of clients are bounded. What is parked and lost its object is settled with a system exception. The lines of a
-list are those of crates/deeds_player/src/lines.rt. All that is printed must be what the model says
+the ids of clients are bounded, and the owner is asked first or not. What is parked and lost its object is settled with a
+system exception, and so is what would have been refused, unless it is refused so. The lines of a list are those of crates/deeds_player/src/lines.rt. All that is printed must be what the model says
 (tests/engine_model.py): for each deed its connection, how it ended, and what was written; at a moment that is told,
 what is kept; and what was counted. A list that fails is printed with as few lines as are found with which it still does, as
 the program takes them. tests/embed/deeds_test.py plays these lists with a library.
@@ -85,6 +85,8 @@ class Owned(Engine):
         terms, places = maker.terms, maker.places
         super().__init__(terms, {}, places)
         self.manners, self.is_hidden, self.longest, self.client = maker.manners, False, None, b""
+        # whether the owner may be asked first, and is, and what would refuse the request that it is asked for
+        self.has_first, self.is_first, self.would = maker.has_first, False, None
         # how many of one connection may be parked, and on which each came
         self.of_one, self.origins, self.counts = maker.of_one, {}, Counter()
         counts = (places.parked, maker.of_one, places.joined, terms.capacity, terms.share)
@@ -119,7 +121,9 @@ class Owned(Engine):
     def refusal_of(self, call):
         if self.longest is not None and self.longest < len(self.client):
             return refused("BAD_CONTEXT")
-        return refused("OBJECT_NOT_EXIST") if self.is_hidden else super().refusal_of(call)
+        refusal = refused("OBJECT_NOT_EXIST") if self.is_hidden else super().refusal_of(call)
+        self.would = refusal if self.is_first and self.client else None
+        return None if self.would else refusal
 
     def live(self):
         """What is kept, or will be, of what is parked: its key, its expiration, and what came of it."""
@@ -183,6 +187,7 @@ class Owned(Engine):
         self.deed("park")
         self.counts["parked"] += 1
         self.parked[number], self.origins[number] = Parked(asked.call), connection
+        self.parked[number].would = self.would
         self.wait(connection, asked, self.parked[number])
         return self.parked[number]
 
@@ -194,8 +199,11 @@ class Owned(Engine):
 
     def answer_asked(self, manner, connection, asked):
         """Answers the request that waits, or declines it."""
-        outcome = self.apply(asked.call) if manner == "answer" else NOT_NOW
-        line = f"answer {outcome_in(outcome)}" if manner == "answer" else "decline"
+        if manner == "answer":
+            outcome = GONE if self.would else self.apply(asked.call)
+            line = f"answer {outcome_in(outcome)}"
+        else:
+            outcome, line = self.would or NOT_NOW, "refuse" if self.would else "decline"
         self.counts["answered" if manner == "answer" else "declined"] += 1
         self.deed(line, f"{connection} done{self.reply_words(connection, asked, outcome)}")
         return outcome
@@ -204,7 +212,8 @@ class Owned(Engine):
         """Gives lines that do nothing while a request waits, and an outcome that is not its."""
         ends = [f"close {connection}", f"lost {connection}"]
         late = [line for number in list(self.parked)[:1] for line in (f"settle {number} 0", f"withdraw {number}")]
-        for line in ("hide", "drop", "bound 0", "tick 1000000", "opened 1000", *ends, *late):
+        first = ["first"] if self.has_first else []
+        for line in ("hide", "drop", "bound 0", *first, "tick 1000000", "opened 1000", *ends, *late):
             self.while_asking(line)
         if asked.call.operation == b"get":
             self.refused("answer overflow", "not fit")
@@ -290,13 +299,15 @@ class Owned(Engine):
         parked = self.parked.get(number)
         if parked is None:
             return self.refused(f"{verb} {number}{' 0' if verb == 'settle' else ''}", "not parked")
-        outcome = self.outcome_of(number, parked) if verb == "settle" else NOT_NOW
+        outcome = self.outcome_of(number, parked) if verb == "settle" else parked.would or NOT_NOW
         self.counts["settled" if verb == "settle" else "withdrawn"] += 1
         kept = [(key, end, came) for key, end, came in self.performed if verb == "settle" or came is not parked]
         self.performed = [(key, end, outcome if came is parked else came) for key, end, came in kept]
         del self.parked[number]
         told = self.told([(c, self.reply_words(c, asked, outcome)) for c, asked in self.going(parked)])
-        return self.deed(f"{verb} {number}{' ' + outcome_in(outcome) if verb == 'settle' else ''}", *told)
+        if verb == "settle":
+            return self.deed(f"settle {number} {outcome_in(outcome)}", *told)
+        return self.deed(f"{'refuse' if parked.would else 'withdraw'} {number}", *told)
 
     def told(self, replies):
         """What is printed of what those are told who waited, each on its connection."""
@@ -306,6 +317,8 @@ class Owned(Engine):
         """The outcome of what is parked: a system exception where its object is gone, and nothing else is taken."""
         if parked.call.operation == b"get":
             self.refused(f"settle {number} overflow", "not parked")
+        if parked.would:
+            return GONE
         if not self.is_hidden:
             return self.apply(parked.call)
         self.refused(f"settle {number} 0", "not parked")
@@ -326,6 +339,10 @@ class Owned(Engine):
         self.give(f"bound {octets}")
         self.longest = octets
 
+    def do_first(self, is_first):
+        self.give("first" if is_first else "last")
+        self.is_first = is_first
+
     def do_tick(self, now):
         self.give(f"tick {now}")
         self.clock = max(self.clock, now)
@@ -342,6 +359,9 @@ class Owned(Engine):
 
 class Maker:
     """Makes the steps of a list."""
+
+    # whether the owner may be asked first
+    has_first = True
 
     def __init__(self, dice):
         self.dice, self.now, self.ids, self.last = dice, dice.randint(0, 100), 0, 0
@@ -399,6 +419,8 @@ class Maker:
         if chance < 0.84:
             return ("drop",) if dice.random() < 0.2 else ("offer", dice.random() < 0.4)
         if chance < 0.89:
+            if self.has_first and dice.random() < 0.5:
+                return "first", dice.random() < 0.8
             return "bound", dice.choice([0, 1, 2, 6, 255, 256, 256])
         if chance < 0.95:
             return self.opened()

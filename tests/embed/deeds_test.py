@@ -6,7 +6,7 @@ has no such thing, or another:
 
 - An error says that there is no place to park a request, and not which places are taken.
 - The greatest length of a client's id is set before the first connection is opened: afterwards `bound` is too late,
-  also while a request waits. Rows in which it changes later are left out.
+  also while a request waits. Rows in which it changes later are left out, and so are those in which the owner is asked first.
 - Goodbye is not refused on a connection where somebody waits, but said behind the replies: rows in which it is refused
   are left out.
 - What became of each request (`heard`) is not told, but counted; why a connection ended (`ending`) is not told.
@@ -36,6 +36,8 @@ DUE = 1048576
 
 class Maker(deeds.Maker):
     """Makes the steps of a list, also those that only the header has."""
+
+    has_first = False
 
     def __init__(self, dice: random.Random) -> None:
         super().__init__(dice)
@@ -210,9 +212,9 @@ def blocks(name: str) -> list[list[str]]:
 
 
 def is_bounded_late(given: list[str]) -> bool:
-    """Whether the greatest length of a client's id changes once a connection was opened."""
+    """Whether the greatest length of a client's id, or whether the owner is asked first, changes late."""
     words = [line.split(" ")[0] for line in given]
-    return "bound" in words and "opened" in words[:words.index("bound")]
+    return any(word in ("bound", "first") and "opened" in words[:at] for at, word in enumerate(words))
 
 
 def is_refused_goodbye(printed: list[str]) -> bool:

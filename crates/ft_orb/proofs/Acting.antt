@@ -237,7 +237,7 @@ module _ {C : Type 0} (offers : C → Offer) (s : Settings) where
       let number = numbered.1 in
       let y = x.stops nothing_yet in
       let z = x.asks in
-      let w : Awaited = record { number = y.number; connection = c; call = y.call; field = y.field } in
+      let w : Awaited = record { number = y.number; connection = c; call = y.call; field = y.field; refused = y.refused } in
       let same : z.3.number ≡ y.number = (let both : Some z.3 ≡ Some w = sym z.5.asks.waits ∙ y.asks.waits in let eq : z.3 ≡ w = cc in ap (λ (v : Awaited). v.number) eq) in
       let first : y.number ≡ asks_in old = (let both : Some y.number ≡ Some (asks_in old) = ap (λ (o : Option Awaited). option_map (λ (w : Awaited). w.number) o) (sym y.asks.waits) ∙ number in cc) in
       let wrote : y.written ≡ out = sym (y.appended ∙ ap (λ (l : List ℕ). l ++ y.written) none) in

@@ -21,7 +21,8 @@ use Rattle.ft_orb.specs.Carrying.{asker_in, reply_if, unless_failed}
 use Rattle.ft_orb.specs.Parking.{CanSettle, parked_at}
 use Rattle.ft_objects.specs.Families.{families_ids, families_offer}
 use Rattle.ft_objects.specs.Filling.{is_a_name, names_id, non_existent_name}
-use Rattle.ft_objects.specs.Interfaces.{Interface, Types, checked_operation, operation}
+use Rattle.ft_log.specs.declared.system_exception.SystemName.{SystemName}
+use Rattle.ft_objects.specs.Interfaces.{Interface, Types, checked_operation, operation, raw_operation}
 use Rattle.ft_orb.specs.Requests.{Call}
 use Rattle.lemonrudder.specs.declared.refusal.Refusal.{Refusal}
 use Rattle.lemonrudder.specs.declared.refusal.Refusal.TheVariants as refusal
@@ -82,9 +83,13 @@ abbrev pub ByName : {A : Type 0} → Option A → Serving → Serving → Result
 ByName None s t r Does = IsRefused refusal.Range s t r
 ByName (Some x) s t r Does = Does x
 
--- what the operation of a call is
+-- what the operation of a call is: raw, where it would be refused
+abbrev pub asked_as : Option SystemName → Interface → Interface
+asked_as None i = i
+asked_as (Some name) i = raw_operation
+
 abbrev pub interface_at : Serving → Awaited → Interface
-interface_at s w = (families_offer s.engine.offering.catalogue).interface w.call.object_key w.call.operation
+interface_at s w = asked_as w.refused ((families_offer s.engine.offering.catalogue).interface w.call.object_key w.call.operation)
 
 -- the types of an operation, if it has types
 abbrev pub types_in : Interface → Option Types

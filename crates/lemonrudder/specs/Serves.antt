@@ -187,7 +187,7 @@ taken_of size (Err e) = Err (refusal_of_serving e)
 -- the engine takes octets until as many are due as may be, and what it writes is due after what was
 abbrev pub Takes : (c moment : ℕ) → List ℕ → Serving → Serving → Result Taken ServeError → Type 0
 Takes c moment octets s t f =
-    IsLeftAt c (length (piece_in octets f)) (fed_in f) (waits_in t.engine) × IsNumbered (asks_in s.engine) (asks_in t.engine) (fed_in f) (waits_in t.engine) × IsFit (families_offer t.engine.offering.catalogue) (waits_in t.engine)
+    IsLeftAt c (length (piece_in octets f)) (fed_in f) (waits_in t.engine) × IsNumbered (asks_in s.engine) (asks_in t.engine) (fed_in f) (waits_in t.engine) × IsFit t.engine.offering.first (families_offer t.engine.offering.catalogue) (waits_in t.engine)
     × ComesDue s.setup.terms.due (length (owed_on t c)) (length octets) f × IfErr f (λ e. EndsShort s.engine t.engine c e) × TakesLate c moment octets s t f
 
 abbrev pub Serves : (c moment : ℕ) → List ℕ → Serving → Serving → Result ℕ Refusal → Type 0

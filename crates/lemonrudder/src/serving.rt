@@ -60,6 +60,7 @@ impl Serving {
             hasher,
         );
         engine.bound_client_ids(terms.longest);
+        engine.ask_first(terms.first);
         Serving {
             engine,
             alloc,

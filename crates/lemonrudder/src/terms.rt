@@ -3,7 +3,7 @@
 ghost use Rattle.std.specs.Prelude.{◌≡◌, ◌≤◌, Some, None, IfErr, IfOk};
 ghost use Rattle.lemonrudder.specs.Limited.{limited, set_to, usual};
 
-use crate::named::limits_of;
+use crate::named::{limits_of, truth_of};
 use crate::refusal::Refusal;
 use crate::seed::Seed;
 use crate::serving::Said;
@@ -21,6 +21,8 @@ pub struct Terms {
     pub due: usize,
     /// How many octets a client's id may have.
     pub longest: usize,
+    /// Whether its owner is asked before a request with FT_REQUEST is refused.
+    pub first: bool,
     pub seed: Seed,
 }
 
@@ -60,6 +62,7 @@ impl Terms {
             },
             due: 1_048_576,
             longest: 256,
+            first: false,
             seed,
         }
     }
@@ -80,6 +83,7 @@ impl Terms {
             7 => terms.places.joined = in_32_bits(value)?,
             8 => terms.due = value as usize,
             9 => terms.longest = value as usize,
+            10 => terms.first = truth_of(value)?,
             _ => return Err(Refusal::Range),
         }
         Ok(terms)

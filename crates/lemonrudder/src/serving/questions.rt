@@ -8,7 +8,7 @@ ghost use Rattle.ft_objects.specs.Interfaces.{interface_of};
 ghost use Rattle.lemonrudder.specs.Questions.{TellsIfSome, body_size, client_of};
 
 use crate::refusal::{Refusal, copied, count_of};
-use crate::request::{RequestHead, put_question, ticket_of};
+use crate::request::{RequestHead, put_question, put_refusal, ticket_of};
 use crate::serving::Serving;
 use cdr_core::{Order, Val, are_writable, end_of_list, write_list};
 use ft_objects::{Catalogue, Lookup, boolean_at, octets_at, ulong_at};
@@ -96,10 +96,13 @@ impl Serving {
         Ok(called)
     }
 
-    /// What the operation is that waits.
+    /// What the operation is that waits: raw, where it would be refused.
     pub(super) fn lookup(&self, asked: &Asked<'_>) -> Lookup<'_>
         ensures { interface_of result ≡ interface_at self.now (awaited_lent asked.now) }
     {
+        if asked.refused.is_some() {
+            return Lookup::Raw;
+        }
         self.engine
             .catalogue()
             .interface(asked.object_key, asked.operation)
@@ -143,6 +146,7 @@ impl Serving {
         head.operation_size = count_of(asked.operation);
         put_question(&mut head, version, request);
         self.put_body(&mut head, &asked);
+        put_refusal(&mut head, asked.refused);
         head.tell(room);
         1
     }
