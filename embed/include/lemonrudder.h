@@ -329,11 +329,15 @@ enum {
   LR_SET_PARKED_OF = 6, /* .. of those that came on one connection: 64 */
   LR_SET_JOINED = 7,    /* who may wait for the outcome of a parked one, beside the last who came: 8 */
   LR_SET_DUE = 8,       /* octets due on a connection from which on it is fed no more: 1048576 */
-  LR_SET_CLIENT_ID = 9  /* octets of a client's id at most; who has a longer one is answered BAD_CONTEXT: 256 */
+  LR_SET_CLIENT_ID = 9, /* octets of a client's id at most; who has a longer one is answered BAD_CONTEXT: 256 */
+  LR_SET_ASK_FIRST = 10 /* 1 where you are asked before a request with FT_REQUEST is refused: 0 */
 };
 
 /* Sets a limit of a server of which no connection was opened: a number of the range above; where none is given, of 32
- * bits, and of LR_SET_DUE and LR_SET_CLIENT_ID of 64. The first of these that holds: LR_E_EMPTY, LR_E_RANGE, LR_E_OPEN
+ * bits, and of LR_SET_DUE and LR_SET_CLIENT_ID of 64. With LR_SET_ASK_FIRST a request with FT_REQUEST that would be
+ * refused for its object, its operation or its arguments is asked of you all the same, unless it has expired, its
+ * client's id is too long, or its outcome is kept: so you may answer by what a store of yours has of it, and else
+ * lr_server_refuse it as it would have been. The first of these that holds: LR_E_EMPTY, LR_E_RANGE, LR_E_OPEN
  * (a connection was opened), LR_E_MEMORY. */
 LR_API int64_t lr_server_set(lr_server *server, uint32_t what, uint64_t value);
 
@@ -394,6 +398,8 @@ typedef struct {
   uint32_t contexts;       /* how many service contexts it has */
   uint64_t client_size;    /* of LR_PART_CLIENT */
   uint64_t expiration;
+  uint32_t is_refused;     /* 1 where it would be refused (LR_SET_ASK_FIRST): then it is raw */
+  uint32_t refusal;        /* .. and by which exception, LR_EX_.. */
 } lr_request;
 
 /* Says what waits: 1, or 0 where nothing does, and `request` is as it was. LR_E_EMPTY. */
