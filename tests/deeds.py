@@ -85,8 +85,8 @@ class Owned(Engine):
         terms, places = maker.terms, maker.places
         super().__init__(terms, {}, places)
         self.manners, self.is_hidden, self.longest, self.client = maker.manners, False, None, b""
-        # whether the owner may be asked first, and is, and what would refuse the request that it is asked for
-        self.has_first, self.is_first, self.would = maker.has_first, False, None
+        # whether the owner is asked first, and what would refuse the request that it is asked for
+        self.is_first, self.would = False, None
         # how many of one connection may be parked, and on which each came
         self.of_one, self.origins, self.counts = maker.of_one, {}, Counter()
         counts = (places.parked, maker.of_one, places.joined, terms.capacity, terms.share)
@@ -212,8 +212,7 @@ class Owned(Engine):
         """Gives lines that do nothing while a request waits, and an outcome that is not its."""
         ends = [f"close {connection}", f"lost {connection}"]
         late = [line for number in list(self.parked)[:1] for line in (f"settle {number} 0", f"withdraw {number}")]
-        first = ["first"] if self.has_first else []
-        for line in ("hide", "drop", "bound 0", *first, "tick 1000000", "opened 1000", *ends, *late):
+        for line in ("hide", "drop", "bound 0", "first", "tick 1000000", "opened 1000", *ends, *late):
             self.while_asking(line)
         if asked.call.operation == b"get":
             self.refused("answer overflow", "not fit")
@@ -360,9 +359,6 @@ class Owned(Engine):
 class Maker:
     """Makes the steps of a list."""
 
-    # whether the owner may be asked first
-    has_first = True
-
     def __init__(self, dice):
         self.dice, self.now, self.ids, self.last = dice, dice.randint(0, 100), 0, 0
         capacity, share = dice.choice([(1024, 1024)] * 3 + [(2, 2), (3, 1), (1, 1), (0, 0), (5, 2)])
@@ -419,7 +415,7 @@ class Maker:
         if chance < 0.84:
             return ("drop",) if dice.random() < 0.2 else ("offer", dice.random() < 0.4)
         if chance < 0.89:
-            if self.has_first and dice.random() < 0.5:
+            if dice.random() < 0.5:
                 return "first", dice.random() < 0.8
             return "bound", dice.choice([0, 1, 2, 6, 255, 256, 256])
         if chance < 0.95:

@@ -4,7 +4,7 @@
  * but for these, where the header has no such thing, or has more:
  *
  * - `park` that is refused: `unparked`; LR_E_PARKS does not say which places are taken.
- * - `bound N` is a limit of the server: once a connection was opened it prints `too late`.
+ * - `bound N`, `first` and `last` are limits of the server: once a connection was opened each prints `too late`.
  * - There is no `heard` and no `ending`: the header tells neither.
  * - What is told of a parked request is printed by the numbers of the connections, and on each as it is due.
  * - `close` is not refused where somebody waits there for a parked request: it prints how many `waits`, and CloseConnection
@@ -37,6 +37,8 @@ static char deeds[DEEDS][LINE];
 static size_t deed_count;
 /* the tickets of what was asked for, in order: their places are the numbers of requests */
 static uint64_t tickets[ASKS];
+/* .. and by what they are refused: by what would refuse them, else by TRANSIENT */
+static uint32_t refusals[ASKS];
 static size_t ask_count;
 /* the connections that were opened */
 static uint64_t connections[CONNECTIONS];
@@ -360,10 +362,11 @@ static struct ended do_close(uint64_t connection) {
 
 /* Notes the ticket of what was asked for. */
 static void note_ask(void) {
-  uint64_t ticket = waiting().ticket;
-  if (ticket == 0) return;
+  lr_request asked = waiting();
+  if (asked.ticket == 0) return;
   if (ask_count == ASKS) stop("too many are asked for");
-  tickets[ask_count++] = ticket;
+  refusals[ask_count] = asked.is_refused ? asked.refusal : LR_EX_TRANSIENT;
+  tickets[ask_count++] = asked.ticket;
 }
 
 static struct ended do_piece(uint64_t connection, uint64_t moment, const struct piece *piece) {
@@ -414,7 +417,7 @@ static struct ended do_answer(const char *outcome) {
 
 static struct ended do_decline(void) {
   lr_request asked = waiting();
-  int64_t answer = lr_server_refuse(&server, asked.ticket, LR_EX_TRANSIENT, 0);
+  int64_t answer = lr_server_refuse(&server, asked.ticket, asked.is_refused ? asked.refusal : LR_EX_TRANSIENT, 0);
   if (asked.ticket == 0 && answer == LR_E_TICKET) return refused_by("nothing asked");
   if (answer != LR_OK) return refused(answer);
   print_entry(asked.connection, "done");
@@ -449,7 +452,8 @@ static struct ended do_late(uint64_t asked, const char *outcome) {
   uint64_t ticket = asked < ask_count ? tickets[asked] : 0;
   if (ticket != 0 && waiting().ticket == ticket) return refused_by("asking");
   bool is_parked = lr_server_part(&server, ticket, LR_PART_OPERATION, NULL, 0) > 0;
-  int64_t answer = outcome == NULL ? lr_server_refuse(&server, ticket, LR_EX_TRANSIENT, 0) : hand_in(ticket, outcome);
+  uint32_t name = ticket == 0 ? LR_EX_TRANSIENT : refusals[asked];
+  int64_t answer = outcome == NULL ? lr_server_refuse(&server, ticket, name, 0) : hand_in(ticket, outcome);
   if (answer == (is_parked ? LR_E_OUTCOME : LR_E_TICKET)) return refused_by("not parked");
   if (answer != LR_OK) return refused(answer);
   print_told();
@@ -463,13 +467,13 @@ static struct ended do_deed(char *words) {
   if (strcmp(name, "close") == 0) return do_close(number(words));
   if (strcmp(name, "lost") == 0) return do_lost(number(words));
   if (strcmp(name, "answer") == 0) return do_answer(words);
-  if (strcmp(name, "decline") == 0) return do_decline();
+  if (strcmp(name, "decline") == 0 || (strcmp(name, "refuse") == 0 && *words == '\0')) return do_decline();
   if (strcmp(name, "park") == 0) return do_park();
   if (strcmp(name, "give_up") == 0) return do_give_up(false);
   if (strcmp(name, "goodbye") == 0) return do_give_up(true);
   uint64_t asked = number(parted(&words, ' '));
   if (strcmp(name, "settle") == 0) return do_late(asked, words);
-  if (strcmp(name, "withdraw") != 0) stop(name);
+  if (strcmp(name, "withdraw") != 0 && strcmp(name, "refuse") != 0) stop(name);
   return do_late(asked, NULL);
 }
 
@@ -659,6 +663,8 @@ static void take_line(char *line) {
     play();
   else if (strcmp(name, "bound") == 0)
     set_limit(LR_SET_CLIENT_ID, number(words));
+  else if (strcmp(name, "first") == 0 || strcmp(name, "last") == 0)
+    set_limit(LR_SET_ASK_FIRST, name[0] == 'f');
   else if (strcmp(name, "due") == 0)
     set_limit(LR_SET_DUE, number(words));
   else if (strcmp(name, "tick") == 0)

@@ -37,8 +37,6 @@ DUE = 1048576
 class Maker(deeds.Maker):
     """Makes the steps of a list, also those that only the header has."""
 
-    has_first = False
-
     def __init__(self, dice: random.Random) -> None:
         super().__init__(dice)
         self.places = Places(dice.choice([1, 2, 3, 100]), dice.choice([0, 1, 2, 10]))
@@ -62,7 +60,9 @@ class Maker(deeds.Maker):
     def made(self) -> list[tuple]:
         longest = self.dice.choice([0, 2, 6, 255, *[LONGEST] * 20])
         due = self.dice.choice([1, 32, 33, 100, DUE, DUE])
-        self.steps = [("bound", longest), ("due", due), *super().made(), ("parked",), ("connections",), ("flow",)]
+        first = self.dice.random() < 0.5
+        self.steps = [("bound", longest), ("due", due), ("first", first), *super().made(), ("parked",),
+                      ("connections",), ("flow",)]
         return self.steps
 
 
@@ -162,6 +162,8 @@ class Embedded(deeds.Owned):
     def while_asking(self, line: str) -> None:
         if line.startswith("bound"):
             return self.do_bound(int(line.split()[1]))
+        if line == "first":
+            return self.do_first(True)
         return super().while_asking(line)
 
     def give_up(self, manner: str, connection: int, asked: Asked) -> str:
@@ -184,6 +186,10 @@ class Embedded(deeds.Owned):
     def do_bound(self, octets: int) -> None:
         if not self.is_late(f"bound {octets}"):
             self.longest = octets
+
+    def do_first(self, is_first: bool) -> None:
+        if not self.is_late("first" if is_first else "last"):
+            self.is_first = is_first
 
     def do_due(self, octets: int) -> None:
         if not self.is_late(f"due {octets}"):

@@ -1017,6 +1017,53 @@ class Engines(Case):
                 self.assertEqual(self.reply(engine).body.unpack("q"), (6,))
             self.assertEqual(engine.count(lr.Counted.KEPT), 0)
 
+    def refused_as(self, engine, octets, name):
+        """A request is asked for first, which would be refused by this: it is answered by what is stored, and refused so
+        where nothing is."""
+        outcome = lr.Outcome(0, LITTLE, lr.pack("q", 6, order=LITTLE))
+        for is_parked in (False, True):
+            engine.feed(1, octets, LONG_AGO)
+            asked = engine.asked()
+            self.assertIs(asked.refusal, lr.SystemName[name])
+            self.assertTrue(asked.is_raw)
+            self.fails(Error.OUTCOME, engine.answer_octets, lr.pack("q", 6))
+            ticket = engine.park() if is_parked else None
+            engine.answer_unkept(outcome, ticket=ticket)
+            self.assertEqual(self.reply(engine).body.unpack("q"), (6,))
+            engine.feed(1, octets, LONG_AGO)
+            refusal = engine.asked().refusal
+            ticket = engine.park() if is_parked else None
+            engine.refuse(refusal, ticket=ticket)
+            self.refusal(engine, name)
+        self.assertEqual(engine.count(lr.Counted.KEPT), 0)
+
+    def refusal(self, engine, name):
+        """A system exception is the reply, and nothing was done."""
+        self.assertEqual(self.reply(engine).body.unpack("sLL"), (f"IDL:omg.org/CORBA/{name}:1.0", 0, lr.Completed.NO))
+
+    def test_asked_first(self):
+        """A request with FT_REQUEST that would be refused for its object, its operation or its arguments."""
+        others = [
+            (asked_for(1, "get", retention=1, key=b"none"), "OBJECT_NOT_EXIST"),
+            (asked_for(1, "none", retention=1), "BAD_OPERATION"),
+            (asked_for(1, "add", b"", retention=1), "MARSHAL"),
+        ]
+        for octets, name in others:
+            self.refused_as(self.engine(ask_first=True), octets, name)
+            engine = self.engine()
+            engine.feed(1, octets, LONG_AGO)
+            self.refusal(engine, name)
+        engine = self.engine(ask_first=True)
+        engine.feed(1, asked_for(1, "none"), LONG_AGO)
+        self.refusal(engine, "BAD_OPERATION")
+        engine.feed(1, asked_for(1, "add", lr.pack("l", 7), retention=1), LONG_AGO)
+        asked = engine.asked()
+        self.assertEqual((asked.refusal, asked.arguments), (None, (7,)))
+        engine.answer(7)
+        self.reply(engine)
+        engine.feed(1, asked_for(1, "none", retention=1), LONG_AGO)
+        self.assertEqual(self.reply(engine).body.unpack("q"), (7,))
+
     def test_raw_outcomes_are_stored(self):
         """Those of a raw operation are stored by who performs it."""
         catalogue = lr.Catalogue()
