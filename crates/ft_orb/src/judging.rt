@@ -1,4 +1,4 @@
-//! What is asked of an owner.
+//! What a request asks of an owner.
 
 ghost use Rattle.std.specs.Prelude.{◌≡◌, ◌<◌, ◌^◌, false, OnOk, IfErr, None, Some};
 ghost use Rattle.cdr_core.specs.View.{values_of};
