@@ -306,6 +306,7 @@ module _ {C Outcome : Type 0} (offers : C → Offer) (owner : OwnerOf Outcome) w
             number = number;
             call = call_of w;
             field = field_with w.retained;
+            refused = w.refused;
             asks = a;
             short = short-by past c moment piece place.taken s (length a.front + 1) b.front b.last up within b.completes b.first (omega (arith, size, all));
           }
@@ -568,12 +569,14 @@ module _ {C Outcome : Type 0} (offers : C → Offer) (owner : OwnerOf Outcome) w
         number = p.number;
         call = call_of p.waiting;
         field = field_with p.waiting.retained;
+        refused = p.waiting.refused;
         is_awaited = ap (λ (o : Option Pending). option_map awaited_of o) k.waits;
         front = b.front;
         last = b.last;
         completes = b.completes;
         asks = b.asks;
         carries = b.field;
+        would = b.refused;
         once = due-at folded calls past p.connection moment octets written p.place.handled p.waiting b (sym k.stands.table.state ∙ k.answered);
       }
 

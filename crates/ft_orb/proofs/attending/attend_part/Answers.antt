@@ -28,12 +28,12 @@ returns-in_ok-attend_ask-in-Ok-Asks-clause-parked g c = stay-then parked_in told
 pub returns-in_err-attend_ask-in-Ok-Asks-clause-waiting : goal.returns-in_err-attend_ask-in-Ok-Asks-clause-waiting
 returns-in_err-attend_ask-in-Ok-Asks-clause-waiting g c q =
     let place = rw c.in-Ok-Asks.field-0-is at c.in-Ok-Asks.ensures.place in
-    c.in_err-attend_ask-in-Ok-Asks.ensures.waiting _ place.5 q ∙ c.in-Ok-Asks.ensures.waiting q
+    c.in_err-attend_ask-in-Ok-Asks.ensures.waiting _ place.6 q ∙ c.in-Ok-Asks.ensures.waiting q
 
 pub returns-in_ok-attend_ask-in-Ok-Asks-clause-waiting : goal.returns-in_ok-attend_ask-in-Ok-Asks-clause-waiting
 returns-in_ok-attend_ask-in-Ok-Asks-clause-waiting g c q =
     let place = rw c.in-Ok-Asks.field-0-is at c.in-Ok-Asks.ensures.place in
-    c.in_ok-attend_ask-in-Ok-Asks.ensures.waiting _ place.5 q ∙ c.in-Ok-Asks.ensures.waiting q
+    c.in_ok-attend_ask-in-Ok-Asks.ensures.waiting _ place.6 q ∙ c.in-Ok-Asks.ensures.waiting q
 
 pub returns-in_err-attend_ask-in-Ok-Asks-clause-table : goal.returns-in_err-attend_ask-in-Ok-Asks-clause-table
 returns-in_err-attend_ask-in-Ok-Asks-clause-table g c =
