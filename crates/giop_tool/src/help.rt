@@ -52,6 +52,10 @@ pub(crate) const RESUME: &str = "After a fault goes on at the next header of a p
 
 pub(crate) const JSON: &str = "Prints an object of JSON a line";
 
+pub(crate) const BODIES: &str = "Of packets prints the octets of bodies and contexts too";
+
+pub(crate) const CLOCK: &str = "Of packets prints the time of UTC, and not that since the first";
+
 pub(crate) const LOG: &str = "Writes a line for each request on standard error";
 
 pub(crate) const ENGINE: &str =

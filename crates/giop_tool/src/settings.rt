@@ -93,7 +93,9 @@ fn check_command<'a>(alloc: Global, texts: &'a Texts) -> Result<Command<'a>, All
 fn trace_command<'a>(alloc: Global) -> Result<Command<'a>, AllocError> {
     stream_command(alloc, "trace", help::TRACES, help::TRACE)?
         .arg(flag(alloc, "resume", help::RESUME))?
-        .arg(flag(alloc, "json", help::JSON))
+        .arg(flag(alloc, "json", help::JSON))?
+        .arg(flag(alloc, "bodies", help::BODIES))?
+        .arg(flag(alloc, "clock", help::CLOCK))
 }
 
 /// `giop ior [TEXT]`.
@@ -249,6 +251,8 @@ fn tracing_of<'a>(words: &ArgMatches<'a>) -> Tracing<'a> {
             } else {
                 Format::Lines
             },
+            has_bodies: words.get_flag("bodies"),
+            is_clock: words.get_flag("clock"),
         },
     }
 }

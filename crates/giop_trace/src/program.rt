@@ -19,6 +19,10 @@ pub struct Options {
     pub resumes: bool,
     /// The form of the lines.
     pub format: Format,
+    /// Whether bodies are printed where the input tells packets; else they always are.
+    pub has_bodies: bool,
+    /// Whether times are those of the day.
+    pub is_clock: bool,
 }
 
 /// Whether octets begin a message.
@@ -62,7 +66,7 @@ impl<R: Read> Run<'_, R> {
         if first.is_empty() {
             return Ok(());
         }
-        self.session.begin(&ALONE, out)?;
+        self.session.begin(&ALONE, None, out)?;
         self.session.take_raw(first, out)?;
         let mut buffer = vec![in self.alloc; 0u8; PIECE]?;
         for _ in 0..u64::MAX {
@@ -133,6 +137,8 @@ pub fn trace<R: Read, W: Write>(
     let printer = Printer {
         alloc,
         format: options.format,
+        has_bodies: options.has_bodies,
+        is_clock: options.is_clock,
     };
     let mut out = match BufWriter::new(alloc, out) {
         Ok(writer) => Sink::new(writer),

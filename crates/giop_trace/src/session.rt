@@ -1,17 +1,22 @@
-//! Connections one after another, as they are traced and printed.
+//! Connections, as they are traced and printed: one after another, or by turns.
 
+use crate::asked::Asked;
 use crate::block::Piece;
-use crate::direction::{Direction, Reading};
-use crate::operations::Operations;
+use crate::direction::Reading;
+use crate::open::Open;
 use crate::sink::Sink;
 use crate::steps::Step;
 use crate::stop::Stop;
 use giop_core::Content;
 use giop_frames::Limits;
-use giop_lines::{Counts, Endpoints, Left, Printer, Shown};
-use giop_tap::{Seen, Sender, Trace};
+use giop_lines::{
+    Closing, Counts, Endpoints, Left, Objects, Printer, Shown, Spot, Stamp, time_between,
+};
+use giop_tap::{Ends, Seen, Sender, Trace};
 use std::alloc::Global;
+use std::collections::BTreeMap;
 use std::io::Write;
+use std::mem;
 
 /// What is traced, and what was counted so far.
 #[derive(Drop)]
@@ -20,35 +25,38 @@ pub(crate) struct Session {
     reading: Reading,
     printer: Printer,
     trace: Trace,
-    operations: Operations,
-    opener: Direction,
-    acceptor: Direction,
-    connection: u64,
+    asked: Asked,
+    objects: Objects,
+    /// The connection that the trace is on.
+    open: Open,
+    /// The others that have not ended.
+    others: BTreeMap<u64, (Open, Ends)>,
+    /// The first time that came.
+    beginning: Option<u64>,
     counts: Counts,
     /// Whether each direction so far ended after a message, with nothing left.
     pub is_clean: bool,
 }
 
-/// The operation that a message asks for, if it asks for one.
-fn operation_of<'m>(content: &Content<'m>) -> Option<&'m [u8]> {
-    match content {
-        Content::Request(request) => Some(request.operation),
-        _ => None,
-    }
-}
-
 /// Counts what a message has to do with earlier ones.
-fn count(seen: &Seen, operations: &mut Operations, counts: &mut Counts) -> Result<(), Stop> {
-    operations.push(operation_of(&seen.message.content))?;
+fn count(seen: &Seen, asked: &mut Asked, counts: &mut Counts) -> Result<(), Stop> {
     if seen.tie.repeats.is_some() {
         counts.repeats.push(seen.number)?;
     }
     match (&seen.message.content, seen.tie.request) {
-        (Content::Cancel(_), Some(request)) => operations.cancel(request),
+        (Content::Cancel(_), Some(request)) => asked.cancel(request),
         (Content::Reply(_) | Content::LocateReply(_), None) => counts.strays.push(seen.number)?,
         _ => {}
     }
     Ok(())
+}
+
+/// The request that a message answers, if it is an answer.
+fn answered_by(seen: &Seen) -> Option<u64> {
+    match &seen.message.content {
+        Content::Reply(_) | Content::LocateReply(_) => seen.tie.request,
+        _ => None,
+    }
 }
 
 impl Session {
@@ -59,28 +67,55 @@ impl Session {
             reading: Reading { limits, resumes },
             printer,
             trace: Trace::new(alloc, limits),
-            operations: Operations::new(alloc),
-            opener: Direction::new(alloc),
-            acceptor: Direction::new(alloc),
-            connection: 0,
+            asked: Asked::new(alloc),
+            objects: Objects::new(alloc),
+            open: Open::none(alloc),
+            others: BTreeMap::new(alloc),
+            beginning: None,
             counts: Counts::new(alloc),
             is_clean: true,
         }
     }
 
+    /// Where something of a side is said to be.
+    fn spot(&self, sender: Sender) -> Spot<'_> {
+        Spot {
+            connection: self.open.number,
+            sender,
+            caught: self.open.caught(sender, self.beginning, None),
+        }
+    }
+
     /// Prints the message that is lent, if one is.
-    fn print_seen<W: Write>(&mut self, end: u64, out: &mut Sink<W>) -> Result<(), Stop> {
+    fn print_seen<W: Write>(
+        &mut self,
+        sender: Sender,
+        end: u64,
+        out: &mut Sink<W>,
+    ) -> Result<(), Stop> {
         let Some(seen) = self.trace.seen() else {
             return Ok(());
         };
-        count(&seen, &mut self.operations, &mut self.counts)?;
-        let operation = self.operations.of(seen.tie.request.unwrap_or(0));
+        count(&seen, &mut self.asked, &mut self.counts)?;
+        let stamp = self.open.stamp(sender);
+        let time = stamp.and_then(|stamp| stamp.time);
+        self.asked.take(seen.number, &seen.message.content, time)?;
+        let answered = answered_by(&seen);
+        let latency = time_between(answered.and_then(|number| self.asked.time(number)), time);
+        let operation = self.asked.operation(seen.tie.request.unwrap_or(0));
         let shown = Shown {
             seen,
             end,
             operation,
         };
-        out.print(&self.printer.message(shown)?)
+        let caught = self.open.caught(sender, self.beginning, latency);
+        let text = self
+            .printer
+            .message(shown, caught.as_ref(), &mut self.objects)?;
+        if let Some(number) = answered {
+            self.asked.forget(number);
+        }
+        out.print(&text)
     }
 
     /// Prints what came of a step.
@@ -93,19 +128,17 @@ impl Session {
     ) -> Result<(), Stop> {
         match step {
             Step::Idle => {}
-            Step::Gave => self.print_seen(end, out)?,
+            Step::Gave => self.print_seen(sender, end, out)?,
             Step::Fault(at, fault, looks) => {
                 self.counts.faults = self.counts.faults.saturating_add(1);
                 self.is_clean = false;
-                out.print(
-                    &self
-                        .printer
-                        .fault(self.connection, sender, at, fault, looks)?,
-                )?;
+                let text = self.printer.fault(&self.spot(sender), at, fault, looks)?;
+                out.print(&text)?;
             }
             Step::Passed(from, octets) => {
                 self.counts.pass(octets);
-                out.print(&self.printer.passed(self.connection, sender, from, octets)?)?;
+                let text = self.printer.passed(&self.spot(sender), from, octets)?;
+                out.print(&text)?;
             }
         }
         Ok(())
@@ -119,16 +152,12 @@ impl Session {
         out: &mut Sink<W>,
     ) -> Result<usize, Stop> {
         let reading = self.reading;
-        let (step, count) = match sender {
-            Sender::Opener => self.opener.step(sender, reading, octets, &mut self.trace)?,
-            Sender::Acceptor => self
-                .acceptor
-                .step(sender, reading, octets, &mut self.trace)?,
+        let direction = match sender {
+            Sender::Opener => &mut self.open.opener,
+            Sender::Acceptor => &mut self.open.acceptor,
         };
-        let end = match sender {
-            Sender::Opener => self.opener.taken(),
-            Sender::Acceptor => self.acceptor.taken(),
-        };
+        let (step, count) = direction.step(sender, reading, octets, &mut self.trace)?;
+        let end = direction.taken();
         self.print_step(sender, step, end, out)?;
         Ok(count)
     }
@@ -136,8 +165,8 @@ impl Session {
     /// Whether a step of a side is due before more octets come.
     fn is_due(&self, sender: Sender) -> bool {
         match sender {
-            Sender::Opener => self.opener.is_due(),
-            Sender::Acceptor => self.acceptor.is_due(),
+            Sender::Opener => self.open.opener.is_due(),
+            Sender::Acceptor => self.open.acceptor.is_due(),
         }
     }
 
@@ -167,12 +196,13 @@ impl Session {
         out: &mut Sink<W>,
     ) -> Result<(), Stop> {
         match sender {
-            Sender::Opener => self.opener.miss(sender, octets, &mut self.trace),
-            Sender::Acceptor => self.acceptor.miss(sender, octets, &mut self.trace),
+            Sender::Opener => self.open.opener.miss(sender, octets, &mut self.trace),
+            Sender::Acceptor => self.open.acceptor.miss(sender, octets, &mut self.trace),
         }
         self.counts.miss(octets);
         self.is_clean = false;
-        out.print(&self.printer.missing(self.connection, sender, octets)?)
+        let text = self.printer.missing(&self.spot(sender), octets)?;
+        out.print(&text)
     }
 
     /// Prints what is left of a side.
@@ -188,25 +218,69 @@ impl Session {
             Left::Rest(_, _) | Left::Unread(_) => {}
         }
         self.is_clean = false;
-        out.print(&self.printer.left(self.connection, sender, left)?)
+        let text = self.printer.left(&self.spot(sender), left)?;
+        out.print(&text)
     }
 
     /// Ends the connection.
     pub fn end_connection<W: Write>(&mut self, out: &mut Sink<W>) -> Result<(), Stop> {
-        let left = self.opener.left(Sender::Opener, &mut self.trace);
+        let left = self.open.opener.left(Sender::Opener, &mut self.trace);
         self.print_left(Sender::Opener, left, out)?;
-        let left = self.acceptor.left(Sender::Acceptor, &mut self.trace);
-        self.print_left(Sender::Acceptor, left, out)
+        let left = self.open.acceptor.left(Sender::Acceptor, &mut self.trace);
+        self.print_left(Sender::Acceptor, left, out)?;
+        self.open = Open::none(self.alloc);
+        Ok(())
     }
 
-    /// Goes to the next connection.
-    pub fn begin<W: Write>(&mut self, ends: &Endpoints, out: &mut Sink<W>) -> Result<(), Stop> {
-        self.connection = self.connection.saturating_add(1);
-        self.counts.connections = self.connection;
-        self.trace.connect(self.connection);
-        self.opener = Direction::new(self.alloc);
-        self.acceptor = Direction::new(self.alloc);
-        out.print(&self.printer.connection(self.connection, ends)?)
+    /// Sets the connection aside that the trace is on, if it is on one, and goes on with these ends.
+    fn set_aside(&mut self, ends: Ends) -> Result<(), Stop> {
+        let ends = self.trace.turn_to(ends);
+        let open = mem::replace(&mut self.open, Open::none(self.alloc));
+        if open.number != 0 {
+            self.others.insert(open.number, (open, ends))?;
+        }
+        Ok(())
+    }
+
+    /// Begins another connection, with its first packet where that is known, and returns its number. The one before
+    /// goes on later, unless it has ended.
+    pub fn begin<W: Write>(
+        &mut self,
+        ends: &Endpoints,
+        stamp: Option<Stamp>,
+        out: &mut Sink<W>,
+    ) -> Result<u64, Stop> {
+        let number = self.counts.connections.saturating_add(1);
+        self.counts.connections = number;
+        let fresh = Ends::new(self.alloc, self.reading.limits, number);
+        self.set_aside(fresh)?;
+        self.open = Open::new(self.alloc, number, ends)?;
+        if stamp.is_some() && number == 1 {
+            out.print(&self.printer.head()?)?;
+        }
+        out.print(&self.printer.connection(number, ends, stamp)?)?;
+        Ok(number)
+    }
+
+    /// Goes on with the connection of a number, if it has not ended.
+    pub fn turn_to(&mut self, number: u64) -> Result<(), Stop> {
+        if self.open.number == number {
+            return Ok(());
+        }
+        let Some((open, ends)) = self.others.remove(&number) else {
+            return Ok(());
+        };
+        self.set_aside(ends)?;
+        self.open = open;
+        Ok(())
+    }
+
+    /// Takes note of the packet in which what comes next of a side stands.
+    pub fn stamp(&mut self, sender: Sender, stamp: Stamp) {
+        if self.beginning.is_none() {
+            self.beginning = stamp.time;
+        }
+        self.open.set_stamp(sender, stamp);
     }
 
     /// Traces what a line gives of a side, and prints what comes of it.
@@ -219,7 +293,19 @@ impl Session {
         match piece {
             Piece::Octets(octets) => self.take_octets(sender, octets, out),
             Piece::Missing(octets) => self.miss(sender, *octets, out),
+            Piece::Closed(closing) => self.close(sender, *closing, out),
         }
+    }
+
+    /// Prints that a side closed the connection.
+    fn close<W: Write>(
+        &mut self,
+        sender: Sender,
+        closing: Closing,
+        out: &mut Sink<W>,
+    ) -> Result<(), Stop> {
+        let text = self.printer.closed(&self.spot(sender), closing)?;
+        out.print(&text)
     }
 
     /// Traces octets of a side, and prints what comes of them.
@@ -232,7 +318,7 @@ impl Session {
         self.counts.messages = self.trace.ties().len() as u64;
         self.counts.unanswered = self.trace.unanswered()?;
         self.counts.cancelled = self
-            .operations
+            .asked
             .cancelled_of(self.alloc, &self.counts.unanswered)?;
         out.print(&self.printer.counts(&self.counts)?)
     }

@@ -1,0 +1,96 @@
+//! A connection that is traced.
+
+use crate::direction::Direction;
+use giop_lines::{Caught, Endpoints, Stamp, later_time};
+use giop_tap::Sender;
+use std::alloc::{AllocError, Global};
+
+/// A connection that is traced: its number, its ends, and how far each side has been read.
+#[derive(Drop)]
+pub(crate) struct Open {
+    /// From 1; 0 of none.
+    pub number: u64,
+    stream: Option<u64>,
+    opener_address: Vec<u8>,
+    acceptor_address: Vec<u8>,
+    pub opener: Direction,
+    pub acceptor: Direction,
+    /// The packet of what came last of each side, with the latest time so far; none where packets are not known.
+    opener_stamp: Option<Stamp>,
+    acceptor_stamp: Option<Stamp>,
+}
+
+/// A stamp after an earlier one of the same side: octets count as come when all before them have.
+fn stamp_after(earlier: Option<Stamp>, stamp: Stamp) -> Stamp {
+    let time = earlier.and_then(|earlier| earlier.time);
+    Stamp {
+        frame: stamp.frame,
+        time: later_time(time, stamp.time),
+    }
+}
+
+impl Open {
+    /// None.
+    pub fn none(alloc: Global) -> Open {
+        Open {
+            number: 0,
+            stream: None,
+            opener_address: Vec::new(alloc),
+            acceptor_address: Vec::new(alloc),
+            opener: Direction::new(alloc),
+            acceptor: Direction::new(alloc),
+            opener_stamp: None,
+            acceptor_stamp: None,
+        }
+    }
+
+    /// One of which nothing has come.
+    pub fn new(alloc: Global, number: u64, ends: &Endpoints) -> Result<Open, AllocError> {
+        Ok(Open {
+            number,
+            stream: ends.stream,
+            opener_address: Vec::from_slice(alloc, ends.opener)?,
+            acceptor_address: Vec::from_slice(alloc, ends.acceptor)?,
+            opener: Direction::new(alloc),
+            acceptor: Direction::new(alloc),
+            opener_stamp: None,
+            acceptor_stamp: None,
+        })
+    }
+
+    /// Takes note of the packet in which what comes next of a side stands.
+    pub fn set_stamp(&mut self, sender: Sender, stamp: Stamp) {
+        match sender {
+            Sender::Opener => self.opener_stamp = Some(stamp_after(self.opener_stamp, stamp)),
+            Sender::Acceptor => self.acceptor_stamp = Some(stamp_after(self.acceptor_stamp, stamp)),
+        }
+    }
+
+    /// The packet of what came last of a side.
+    pub fn stamp(&self, sender: Sender) -> Option<Stamp> {
+        match sender {
+            Sender::Opener => self.opener_stamp,
+            Sender::Acceptor => self.acceptor_stamp,
+        }
+    }
+
+    /// What a capture tells of what came last of a side.
+    pub fn caught(
+        &self,
+        sender: Sender,
+        beginning: Option<u64>,
+        latency: Option<u64>,
+    ) -> Option<Caught<'_>> {
+        let stamp = self.stamp(sender)?;
+        Some(Caught {
+            stamp,
+            beginning,
+            ends: Endpoints {
+                stream: self.stream,
+                opener: &self.opener_address,
+                acceptor: &self.acceptor_address,
+            },
+            latency,
+        })
+    }
+}

@@ -1,0 +1,394 @@
+"""Checks `giop trace` on packets with times, and giop-capture.
+
+- Sessions of tests/trace.py are made at random, on connections that take turns, in packets with numbers and times, some
+  of which go back; as giop-capture gives packets, and as tshark does, one stream after another in any order.
+- Packets of TCP are made at random of what two sides send: in any cuts, some again, some late, some lost; and
+  giop-capture puts them in order as it was sent. Where tshark is there, it gives the same of them.
+- A recording of omniORB: each message that tshark finds in it, `giop trace` does.
+"""
+import base64
+import datetime
+import importlib.machinery
+import importlib.util
+import json
+import os
+import random
+import struct
+import subprocess
+import sys
+import tempfile
+import unittest
+
+from tests import base, giop, programs, trace
+
+SCRIPT = os.path.join(programs.ROOT, "giop-capture")
+CAPTURES = os.path.join(programs.HERE, "captures")
+SEED = 20261129
+SESSIONS = 40
+STREAMS = 60
+START = 1_700_000_000_000_000_000
+FIN, SYN, RST, ACK = 1, 2, 4, 16
+
+
+def script():
+    """giop-capture as a module."""
+    loader = importlib.machinery.SourceFileLoader("giop_capture", SCRIPT)
+    module = importlib.util.module_from_spec(importlib.util.spec_from_loader("giop_capture", loader))
+    kept, sys.dont_write_bytecode = sys.dont_write_bytecode, True
+    loader.exec_module(module)
+    sys.dont_write_bytecode = kept
+    return module
+
+
+def clock(time):
+    """A time in nanoseconds as jiff prints it."""
+    seconds, rest = divmod(time, 1_000_000_000)
+    digits = f".{rest:09d}".rstrip("0") if rest else ""
+    return f"{datetime.datetime.fromtimestamp(seconds, datetime.timezone.utc):%Y-%m-%dT%H:%M:%S}{digits}Z"
+
+
+class Packets(trace.Session):
+    """A session in packets: those of each connection, with their numbers and times."""
+
+    def __init__(self, rng):
+        super().__init__(rng)
+        self.packets, self.all_ends, self.clocks, self.stamps = [], {}, {}, []
+        self.number, self.time = 0, START
+
+    def open(self):
+        self.connection = len(self.all_ends) + 1
+        self.ends = self.all_ends[self.connection] = {0: 0, 1: 0}
+
+    def turn_to(self, connection):
+        self.connection, self.ends = connection, self.all_ends[connection]
+
+    def send(self, side, message):
+        super().send(side, message)
+        self.stamps.append((self.number, self.clocks.get((self.connection, side))))
+
+    def next_time(self):
+        """When the next packet comes, as its clock has it; 0 where that is not known."""
+        self.time += self.rng.randrange(1, 2_000_000)
+        if self.rng.random() < 0.05:
+            return 0
+        return self.time - (self.rng.randrange(3_000_000) if self.rng.random() < 0.1 else 0)
+
+    def write(self, side, octets):
+        self.ends[side] += len(octets)
+        cut = self.rng.randrange(1, len(octets)) if len(octets) > 1 and self.rng.random() < 0.3 else len(octets)
+        for piece in (octets[:cut], octets[cut:]):
+            if piece:
+                self.number += self.rng.randrange(1, 3)
+                time = self.next_time()
+                self.packets.append((self.connection, side, self.number, time, piece))
+                if time:
+                    key = (self.connection, side)
+                    self.clocks[key] = max(time, self.clocks.get(key, 0))
+
+    def beginning(self):
+        return next((time for _, _, _, time, _ in self.packets if time), None)
+
+    def objects(self):
+        """What is to be printed of each message, with what the packets tell."""
+        beginning, all_of = self.beginning(), []
+        for one, (frame, time) in zip(super().objects(), self.stamps):
+            one["frame"] = frame
+            if time is not None:
+                one["time"] = clock(time)
+                if time >= beginning:
+                    one["since"] = time - beginning
+            asked = all_of[one["request"] - 1][1] if one["request"] and one["kind"] in ("Reply", "LocateReply") else None
+            if asked is not None and time is not None and time >= asked:
+                one["latency"] = time - asked
+            if one["target"]:
+                one["target"]["object"] = "A"
+            all_of.append((one, time))
+            yield one
+
+
+def head(stream=None):
+    told = "" if stream is None else f"stream: {stream}\n"
+    return f"{told}peers:\n  - peer: 0\n    host: 127.0.0.1\n    port: 1\npackets:\n"
+
+
+def item(packet, stream=None):
+    _, side, number, time, octets = packet
+    told = "" if stream is None else f"    stream: {stream}\n"
+    digits = base64.b64encode(octets).decode()
+    lines = "".join(f"      {digits[n:n + 76]}\n" for n in range(0, len(digits), 76))
+    return (f"  - packet: {number}\n{told}    peer: {side}\n    timestamp: {time // 10 ** 9}.{time % 10 ** 9:09d}\n"
+            f"    data: !!binary |\n{lines}")
+
+
+def by_turns(made):
+    """The packets as giop-capture gives them."""
+    text, known = [], set()
+    for packet in made.packets:
+        if packet[0] not in known:
+            known.add(packet[0])
+            text.append(head(packet[0] + 6))
+        text.append(item(packet, packet[0] + 6))
+    return "".join(text)
+
+
+def by_streams(made):
+    """The packets as tshark gives them."""
+    streams = sorted(made.all_ends)
+    made.rng.shuffle(streams)
+    return "".join(head() + "".join(item(packet) for packet in made.packets if packet[0] == stream) for stream in streams)
+
+
+def steps_of(rng):
+    """The steps of a session on connections that take turns: None opens one, a number goes on with one."""
+    steps, count = [], 0
+    for _ in range(rng.randrange(1, 60)):
+        if count == 0 or count < 4 and rng.random() < 0.1:
+            count += 1
+            steps.append(None)
+        else:
+            steps.append(rng.randrange(1, count + 1))
+        steps.append((rng.randrange(2), trace.any_message(rng, 2)))
+    return steps
+
+
+def played(steps, rng):
+    made = Packets(rng)
+    for step in steps:
+        if step is None:
+            made.open()
+        elif isinstance(step, int):
+            made.turn_to(step)
+        else:
+            made.send(*step)
+    return made
+
+
+def check_session(made, text):
+    """What is wrong with the trace of a session, or None."""
+    wanted = list(made.objects())
+    status, got, err = trace.traced_objects(text)
+    if err or status != 0:
+        return f"status {status}, {err!r}"
+    if got[0] != {"line": "trace", "form": 1}:
+        return f"the first line is {got[0]}"
+    return trace.compared(wanted, got[1:-1]) or trace.differences(trace.ending(made, wanted), got[-1])
+
+
+class Packeted(unittest.TestCase):
+    """What is said of connections in packets."""
+
+    @classmethod
+    def setUpClass(cls):
+        programs.program("GIOP")
+
+    def judge(self, seed, form):
+        made = played(steps_of(random.Random(seed)), random.Random(seed))
+        text = form(made)
+        wrong = check_session(made, text)
+        if wrong:
+            self.fail(f"{wrong}\n{text}")
+
+    @base.each_seed(SEED, SESSIONS)
+    def test_by_turns(self, seed):
+        """Messages on connections that take turns are told with their packets, times and latencies."""
+        self.judge(seed, by_turns)
+
+    @base.each_seed(SEED, SESSIONS)
+    def test_by_streams(self, seed):
+        """One stream after another, in any order, their messages are told in the order of their packets."""
+        self.judge(seed, by_streams)
+
+
+# ------------------------------------------------------------------------------------------------- packets of TCP
+
+
+class Sent:
+    """What one side sends, in segments, some of which come again, late or never."""
+
+    def __init__(self, rng, octets):
+        self.rng, self.octets, self.place = rng, octets, rng.choice([0, 1000, (1 << 32) - 20, rng.randrange(1 << 32)])
+
+    def segments(self, with_losses):
+        """The segments in their order, each with its place; and which places of the octets are lost."""
+        found, lost, at = [], set(), 0
+        while at < len(self.octets):
+            size = self.rng.randrange(1, 40)
+            found.append((at, self.octets[at:at + size]))
+            at += size
+        for n in range(len(found) - 1):
+            if self.rng.random() < 0.15:
+                found[n], found[n + 1] = found[n + 1], found[n]
+        for n in range(len(found) - 1, -1, -1):
+            chance = self.rng.random()
+            if chance < 0.15:
+                start = max(0, found[n][0] - self.rng.randrange(10))
+                found.insert(n + 1, (start, self.octets[start:found[n][0] + len(found[n][1])]))
+            elif with_losses and chance < 0.2 and 0 < n < len(found) - 1:
+                found.pop(n)
+        has = {place for start, octets in found for place in range(start, start + len(octets))}
+        last = max(has)
+        lost = {place for place in range(last) if place not in has}
+        return found, lost
+
+
+class Written:
+    """Packets of connections, in the order in which they come."""
+
+    def __init__(self):
+        self.packets, self.time = [], 1_700_000_000_000_000
+
+    def add(self, ports, place, ack, flags, octets=b""):
+        self.time += 1000
+        tcp = struct.pack(">HHIIBBHHH", *ports, place % (1 << 32), ack % (1 << 32), 0x50, flags, 65535, 0, 0) + octets
+        host = bytes([127, 0, 0, 1])
+        ip = struct.pack(">BBHHHBBH4s4s", 0x45, 0, 20 + len(tcp), 1, 0, 64, 6, 0, host, host)
+        self.packets.append((self.time, bytes(12) + b"\x08\x00" + ip + tcp))
+
+    def connection(self, port, client, server, with_losses):
+        """A connection on which both sides send by turns; what is to be found of each."""
+        places = [client.place, server.place]
+        ports = (port, 2809)
+        self.add(ports, places[0] - 1, 0, SYN)
+        self.add(ports[::-1], places[1] - 1, places[0], SYN | ACK)
+        left = [list(side.segments(with_losses)) for side in (client, server)]
+        whole = []
+        for n in (0, 1):
+            segments, lost = left[n]
+            own, sent = ports if n == 0 else ports[::-1], (client, server)[n]
+            for start, octets in segments:
+                self.add(own, places[n] + start, places[1 - n], ACK, octets)
+            end = max(start + len(octets) for start, octets in segments)
+            # the other has all, those that the capture missed among it
+            self.add(own[::-1], places[1 - n] + (0 if n == 0 else len(client.octets)), places[n] + end, ACK)
+            whole.append(([o if place not in lost else None for place, o in enumerate(sent.octets[:end])], end))
+        self.add(ports, places[0] + whole[0][1], places[1] + whole[1][1], FIN | ACK)
+        self.add(ports[::-1], places[1] + whole[1][1], places[0] + whole[0][1] + 1, FIN | ACK)
+        return [octets for octets, _ in whole]
+
+    def lines(self, number=0):
+        """The packets of one connection as tshark tells of them."""
+        for n, (time, packet) in enumerate(self.packets, 1):
+            source, target, place, ack, _, flags = struct.unpack(">HHIIBB", packet[34:48])
+            octets = packet[54:]
+            yield "\t".join(map(str, [n, f"{time // 10 ** 6}.{time % 10 ** 6:06d}000", number, "127.0.0.1", "", source,
+                                      "127.0.0.1", "", target, place, ack, hex(flags), len(octets), octets.hex()])) + "\n"
+
+    def file(self, path):
+        with open(path, "wb") as file:
+            file.write(struct.pack("<IHHiIII", 0xa1b2c3d4, 2, 4, 0, 0, 65535, 1))
+            for time, packet in self.packets:
+                file.write(struct.pack("<IIII", time // 10 ** 6, time % 10 ** 6, len(packet), len(packet)) + packet)
+
+
+def sides_in(text):
+    """What packets in lines of yaml give of each side of each stream: its octets, None where one is missing."""
+    found, key = {}, None
+    for line in text.splitlines():
+        name, _, value = line.strip().partition(": ")
+        if line.startswith("    stream: "):
+            key = int(value)
+        elif line.startswith("    peer: "):
+            side = found.setdefault((key, int(value)), [])
+        elif name == "missing":
+            side += [None] * int(value)
+        elif line.startswith("      "):
+            side += base64.b64decode(line)
+    return found
+
+
+def followed(text):
+    """The same by what tshark prints of one stream after another, in the order of their addresses."""
+    found = {}
+    for block in text.split("Follow: tcp,raw")[1:]:
+        stream = int(block.split("tcp.stream eq ")[1].split("\n")[0])
+        for line in block.splitlines():
+            if line.strip("\t0123456789abcdef") or not line.strip():
+                continue
+            octets = bytes.fromhex(line.strip())
+            side = found.setdefault((stream, 1 if line.startswith("\t") else 0), [])
+            gap = octets.rstrip(b"\0").split(b" bytes missing in capture file")
+            side += [None] * int(gap[0][1:]) if len(gap) == 2 else octets
+    return found
+
+
+def conversation(rng):
+    return [Sent(rng, giop.request(1, b"k", "get") + rng.randbytes(rng.randrange(200))) for _ in range(2)]
+
+
+class Ordered(unittest.TestCase):
+    """What giop-capture makes of packets."""
+
+    @base.each_seed(SEED, STREAMS * 3)
+    def test_order(self, seed):
+        """The octets of both sides stand in their order, each once, and those that are lost are counted."""
+        rng, made = random.Random(seed), Written()
+        client, server = conversation(rng)
+        wanted = made.connection(40000, client, server, seed % 3 == 0)
+        text = "".join(script().told(made.lines(), []))
+        got = sides_in(text)
+        self.assertEqual([got.get((0, side), []) for side in (0, 1)], wanted)
+        self.assertEqual(text.count("closed: FIN"), 2)
+
+    @programs.needs("tshark")
+    def test_as_tshark(self):
+        """tshark gives the same octets of each stream."""
+        made = Written()
+        for n in range(STREAMS):
+            rng = random.Random(SEED + n)
+            made.connection(40000 + n, *conversation(rng), n % 3 == 0)
+        with tempfile.TemporaryDirectory() as folder:
+            path = os.path.join(folder, "made.pcap")
+            made.file(path)
+            streams = [word for n in range(STREAMS) for word in ("-z", f"follow,tcp,raw,{n}")]
+            theirs = base.ran("tshark", "-r", path, "-q", *streams, seconds=120).stdout.decode()
+            ours = base.ran(SCRIPT, path, "--yaml", seconds=120).stdout.decode()
+        self.assertEqual(sides_in(ours), followed(theirs))
+
+    def test_other_ports(self):
+        """With --port the connections of other ports are left out, and without it those without GIOP."""
+        made = Written()
+        made.connection(40000, *[Sent(random.Random(SEED), b"GET / HTTP/1.1\r\n")] * 2, False)
+        for ports, is_told in (([], False), ([2809], True), ([80], False)):
+            text = "".join(script().told(made.lines(), ports))
+            self.assertEqual(bool(text), is_told, ports)
+
+    def test_without_tshark(self):
+        """Where tshark is missing, it is said how to get it."""
+        run = subprocess.run([sys.executable, SCRIPT, "none.pcap"], env={"PATH": "/nowhere"}, capture_output=True,
+                             timeout=20, check=False)
+        self.assertEqual(run.returncode, 2)
+        self.assertIn(b"giop-capture: tshark is missing", run.stderr)
+
+
+# ------------------------------------------------------------------------------------------------- a recording
+
+RECORDING = os.path.join(CAPTURES, "names.pcapng")
+# the numbers of messages and of statuses in the standard
+FIELDS = ["frame.number", "frame.time_epoch", "giop.type", "giop.request_id", "giop.request_op", "giop.replystatus"]
+
+
+class Recorded(unittest.TestCase):
+    """A recording of nameclt, omniMapper and omniNames of omniORB on loopback."""
+
+    @programs.needs("tshark")
+    def test_as_tshark(self):
+        """Each message that tshark finds stands in the same packet, with the same kind, request id, operation and status."""
+        programs.program("GIOP")
+        words = [word for field in FIELDS for word in ("-e", field)]
+        told = base.ran("tshark", "-r", RECORDING, "-Y", "giop", "-T", "fields", *words, seconds=120).stdout.decode()
+        text = base.ran(SCRIPT, RECORDING, "--yaml", seconds=120).stdout
+        run = base.ran(programs.program("GIOP"), "trace", "--json", given=text)
+        self.assertEqual((run.returncode, run.stderr), (0, b""))
+        got = [one for one in map(json.loads, run.stdout.splitlines()) if one["line"] == "message"]
+        self.assertEqual(len(got), len(told.splitlines()))
+        for one, line in zip(got, told.splitlines()):
+            frame, time, kind, request_id, operation, status = line.split("\t")
+            seconds, _, rest = time.partition(".")
+            self.assertEqual((one["frame"], one["time"], one["kind"]), (
+                int(frame), clock(int(seconds) * 10 ** 9 + int(rest)), trace.KINDS[int(kind)]))
+            if request_id:
+                self.assertEqual(one["id"], int(request_id))
+            if one["kind"] == "Request":
+                self.assertEqual(one["operation"], operation)
+            if one["kind"] == "Reply":
+                self.assertEqual(one["status"], trace.STATUSES[int(status)])
