@@ -2,6 +2,7 @@
 
 - Sessions of tests/trace.py are made at random, on connections that take turns, in packets with numbers and times, some
   of which go back; as giop-capture gives packets, and as tshark does, one stream after another in any order.
+- Of the same, the messages that options ask for, and what is counted of calls.
 - Packets of TCP are made at random of what two sides send: in any cuts, some again, some late, some lost; and
   giop-capture puts them in order as it was sent. Where tshark is there, it gives the same of them.
 - A recording of omniORB: each message that tshark finds in it, `giop trace` does.
@@ -160,6 +161,7 @@ def played(steps, rng):
             made.turn_to(step)
         else:
             made.send(*step)
+    made.connection = len(made.all_ends)
     return made
 
 
@@ -197,6 +199,122 @@ class Packeted(unittest.TestCase):
     def test_by_streams(self, seed):
         """One stream after another, in any order, their messages are told in the order of their packets."""
         self.judge(seed, by_streams)
+
+
+# ------------------------------------------------------------------------------------------------- some messages only
+
+def answer_of(objects, one):
+    """The object that answers a request, or None."""
+    return next((o for o in objects if o["kind"] in ("Reply", "LocateReply") and o["request"] == one["number"]), None)
+
+
+def chosen(objects, early, late):
+    """The numbers of the messages that are printed, in the order of their lines."""
+    numbers, kept = [], {}
+    for one in objects:
+        if one["kind"] in ("Request", "LocateRequest"):
+            if not early(one):
+                continue
+            kept[one["number"]] = [one["number"]]
+            if late is None:
+                numbers.append(one["number"])
+        elif one["request"] in kept:
+            if late is None:
+                numbers.append(one["number"])
+            elif one["kind"] == "CancelRequest":
+                kept[one["request"]].append(one["number"])
+            elif late(one):
+                numbers += [*kept[one["request"]], one["number"]]
+    return numbers
+
+
+def is_exception(one):
+    return one["status"] == "SYSTEM_EXCEPTION"
+
+
+CHOICES = {
+    "operation": (["--operation", "add"], lambda one: one["operation"] == "add", None),
+    "object": (["--object", "k"], lambda one: True, None),
+    "digits": (["--object", "6b"], lambda one: True, None),
+    "another": (["--object", "j"], lambda one: False, None),
+    "client": (["--client", "A"], lambda one: bool(one["ft"]) and one["ft"]["client"] == "A", None),
+    "call": (["--call", "3"], lambda one: 3 in (one["number"], one["repeats"]), None),
+    "slower": (["--slower", "10"], lambda one: True, lambda one: one.get("latency", -1) >= 10_000_000),
+    "faults": (["--faults"], lambda one: True, is_exception),
+    "both": (["--faults", "--operation", "get"], lambda one: one["operation"] == "get", is_exception),
+}
+
+
+def at(percent, latencies):
+    """The least latency that so many of a hundred do not go over, with its first eight binary digits."""
+    found = sorted(latencies)[-(-len(latencies) * percent // 100) - 1]
+    shift = max(0, found.bit_length() - 8)
+    return found >> shift << shift
+
+
+def calls_of(objects):
+    """What is counted of the calls of each operation on the one object."""
+    found = {}
+    for one in objects:
+        if one["kind"] in ("Request", "LocateRequest"):
+            row = found.setdefault(one["operation"], {"asked": [], "answered": [], "repeats": 0, "latencies": [], "names": []})
+            row["asked"].append(one["octets"] or 0)
+            row["repeats"] += one["repeats"] is not None
+        elif one["kind"] in ("Reply", "LocateReply") and one["request"]:
+            row = found[objects[one["request"] - 1]["operation"]]
+            row["answered"].append(one["octets"])
+            row["latencies"] += [one["latency"]] if "latency" in one else []
+            row["names"] += [one["exception"]["name"]] if one["exception"] else []
+    for operation, row in sorted(found.items(), key=lambda it: (it[0] is not None, it[0])):
+        times = row["latencies"]
+        yield {
+            "line": "calls", "key": "6b", "object": "A", "operation": operation, "requests": len(row["asked"]),
+            "answers": len(row["answered"]), "repeats": row["repeats"], "asked": sum(row["asked"]),
+            "answered": sum(row["answered"]), **{f"latency{n}": at(n, times) if times else None for n in (50, 90, 99)},
+            "greatest": max(times, default=None),
+            "exceptions": [{"name": name, "count": row["names"].count(name)} for name in sorted(set(row["names"]))],
+        }
+
+
+class Chosen(unittest.TestCase):
+    """Some messages only, and what is counted of all."""
+
+    @classmethod
+    def setUpClass(cls):
+        programs.program("GIOP")
+
+    @base.each_seed(SEED, 12)
+    def test_choices(self, seed):
+        """Each option prints the messages that it says, and counts all."""
+        made = played(steps_of(random.Random(seed)), random.Random(seed))
+        objects, text = list(made.objects()), by_turns(made)
+        for name, (words, early, late) in CHOICES.items():
+            status, got, err = trace.traced_objects(text, *words)
+            numbers = [one["number"] for one in got if one["line"] == "message"]
+            self.assertEqual((status, numbers, err), (0, chosen(objects, early, late), ""), name)
+            self.assertEqual(got[-1], trace.ending(made, objects), name)
+
+    @base.each_seed(SEED, 12)
+    def test_unanswered(self, seed):
+        """Requests that nothing answered are printed at the end, with what cancelled them."""
+        made = played(steps_of(random.Random(seed)), random.Random(seed))
+        objects = list(made.objects())
+        wanted = []
+        for number in trace.ending(made, objects)["unanswered"]:
+            wanted += [number] + [o["number"] for o in objects if o["kind"] == "CancelRequest" and o["request"] == number]
+        _, got, _ = trace.traced_objects(by_turns(made), "--unanswered")
+        self.assertEqual([one["number"] for one in got if one["line"] == "message"], wanted)
+
+    @base.each_seed(SEED, 12)
+    def test_summary(self, seed):
+        """What is counted of calls."""
+        made = played(steps_of(random.Random(seed)), random.Random(seed))
+        objects = list(made.objects())
+        _, got, _ = trace.traced_objects(by_turns(made), "--summary")
+        self.assertEqual(got[1:-2], list(calls_of(objects)))
+        self.assertEqual(got[-2], {"line": "endings", "close": 0, "error": 0, "reset": 0, "fin": 0,
+                                   "open": len(made.all_ends)})
+        self.assertEqual(got[-1], trace.ending(made, objects))
 
 
 # ------------------------------------------------------------------------------------------------- packets of TCP

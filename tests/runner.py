@@ -25,8 +25,8 @@ from tests import base, programs
 
 # what is about the programs of `rt ci`, and about the library for C
 OF_PROGRAMS = [
-    "tests.cases", "tests.rows", "tests.readings", "tests.inputs", "tests.made_pages", "tests.trace", "tests.serve",
-    "tests.schedules", "tests.engine", "tests.deeds", "tests.compare_server", "tests.echo",
+    "tests.cases", "tests.rows", "tests.readings", "tests.inputs", "tests.made_pages", "tests.trace", "tests.captures",
+    "tests.serve", "tests.schedules", "tests.engine", "tests.deeds", "tests.compare_server", "tests.echo",
     "tests.bounded_allocations", "tests.refused_allocations",
 ]
 OF_LIBRARY = [

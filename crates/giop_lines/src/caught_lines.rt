@@ -23,7 +23,7 @@ use giop_text::{
 use std::alloc::{AllocError, Global};
 
 /// Appends a span of nanoseconds in seconds, down to a microsecond.
-fn put_seconds(nanoseconds: u64, text: &mut String) -> Result<(), AllocError> {
+pub(crate) fn put_seconds(nanoseconds: u64, text: &mut String) -> Result<(), AllocError> {
     let seconds = nanoseconds / 1_000_000_000;
     let rest = nanoseconds % 1_000_000_000 / 1_000;
     write!(text, "{seconds}.{rest:06}")

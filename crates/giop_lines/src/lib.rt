@@ -21,6 +21,8 @@ mod objects;
 mod printing;
 mod reports;
 mod shown;
+mod summaries;
+mod summary;
 
 // what is printed
 pub use caught::{Caught, Stamp, later_time, time_between};
@@ -30,6 +32,7 @@ pub use looks::{Looks, looks_of};
 pub use objects::Objects;
 pub use printing::{Closing, Endpoints, Spot};
 pub use shown::Shown;
+pub use summary::{Called, Ending, Endings, Row, Summary};
 
 // its lines
 pub use printing::{Format, Printer};

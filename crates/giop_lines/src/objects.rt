@@ -15,6 +15,8 @@ pub struct Objects {
     alloc: Global,
     letters: BTreeMap<Vec<u8>, u64>,
     octets: u64,
+    /// How many keys have a letter at most.
+    most: usize,
     /// The lines of those that came last, as they were not printed yet.
     fresh: String,
 }
@@ -39,19 +41,20 @@ fn letter_of(alloc: Global, place: u64) -> Result<String, AllocError> {
 }
 
 impl Objects {
-    /// No key so far.
-    pub fn new(alloc: Global) -> Objects {
+    /// No key so far, and with no letters for any, where they are not wanted.
+    pub fn new(alloc: Global, has_letters: bool) -> Objects {
         Objects {
             alloc,
             letters: BTreeMap::new(alloc),
             octets: 0,
+            most: if has_letters { MOST_KEYS } else { 0 },
             fresh: String::new(alloc),
         }
     }
 
     /// Whether one more key of so many octets is remembered.
     fn has_room(&self, octets: usize) -> bool {
-        self.letters.len() < MOST_KEYS && self.octets.saturating_add(octets as u64) <= MOST_OCTETS
+        self.letters.len() < self.most && self.octets.saturating_add(octets as u64) <= MOST_OCTETS
     }
 
     /// Takes a key that has no letter, and gives it the next one.

@@ -6,7 +6,8 @@ use crate::left::Left;
 use crate::looks::Looks;
 use crate::objects::Objects;
 use crate::shown::Shown;
-use crate::{caught_lines, json, lines, reports};
+use crate::summary::Summary;
+use crate::{caught_lines, json, lines, reports, summaries};
 use giop_link::LinkFault;
 use giop_tap::Sender;
 use std::alloc::{AllocError, Global};
@@ -193,6 +194,13 @@ impl Printer {
             }
             (Format::Json, _) => reports::put_left(self.alloc, spot, left, &mut text)?,
         }
+        Ok(text)
+    }
+
+    /// The lines of a summary.
+    pub fn summary(&self, summary: &Summary, objects: &mut Objects) -> Result<String, AllocError> {
+        let mut text = String::new(self.alloc);
+        summaries::put_summary(self, summary, objects, &mut text)?;
         Ok(text)
     }
 

@@ -1,17 +1,41 @@
 //! What is kept of the requests that wait for an answer, for the lines of their answers, by the numbers of the messages.
 
+use crate::choice::key_in;
 use giop_core::{Content, ReplyWish};
 use std::alloc::{AllocError, Global};
 use std::collections::BTreeMap;
 
 /// A request that waits.
 #[derive(Drop)]
-struct Request {
+pub(crate) struct Request {
+    /// The key of its object, where it names one by that.
+    key: Option<Vec<u8>>,
     /// The operation that it asks for; none of a LocateRequest.
     operation: Option<Vec<u8>>,
     /// When its last octet came, where that is known.
     time: Option<u64>,
     is_cancelled: bool,
+    /// Whether it is asked for, as far as is known before its answer, and the lines that are printed if it is then.
+    is_chosen: bool,
+    lines: String,
+}
+
+impl Request {
+    /// The key of its object, where it names one by that.
+    pub fn key(&self) -> Option<&[u8]> {
+        match &self.key {
+            Some(key) => Some(key),
+            None => None,
+        }
+    }
+
+    /// The operation that it asks for, if it asks for one.
+    pub fn operation(&self) -> Option<&[u8]> {
+        match &self.operation {
+            Some(name) => Some(name),
+            None => None,
+        }
+    }
 }
 
 /// The requests that wait.
@@ -38,6 +62,14 @@ fn operation_in<'m>(content: &Content<'m>) -> Option<&'m [u8]> {
     }
 }
 
+/// A copy of octets, if there are some.
+fn copied(alloc: Global, octets: Option<&[u8]>) -> Result<Option<Vec<u8>>, AllocError> {
+    match octets {
+        Some(octets) => Ok(Some(Vec::from_slice(alloc, octets)?)),
+        None => Ok(None),
+    }
+}
+
 impl Asked {
     /// None.
     pub fn new(alloc: Global) -> Asked {
@@ -53,18 +85,18 @@ impl Asked {
         number: u64,
         content: &Content,
         time: Option<u64>,
+        is_chosen: bool,
     ) -> Result<(), AllocError> {
         if !waits(content) {
             return Ok(());
         }
-        let operation = match operation_in(content) {
-            Some(name) => Some(Vec::from_slice(self.alloc, name)?),
-            None => None,
-        };
         let request = Request {
-            operation,
+            key: copied(self.alloc, key_in(content))?,
+            operation: copied(self.alloc, operation_in(content))?,
             time,
             is_cancelled: false,
+            is_chosen,
+            lines: String::new(self.alloc),
         };
         self.requests.insert(number, request)?;
         Ok(())
@@ -84,9 +116,40 @@ impl Asked {
 
     /// The operation that the request of a number asks for, if it asks for one.
     pub fn operation(&self, number: u64) -> Option<&[u8]> {
-        match &self.requests.get(&number)?.operation {
-            Some(name) => Some(name),
-            None => None,
+        self.requests.get(&number)?.operation()
+    }
+
+    /// The request of a number.
+    pub fn request(&self, number: u64) -> Option<&Request> {
+        self.requests.get(&number)
+    }
+
+    /// Whether the request of a number waits.
+    pub fn waits(&self, number: u64) -> bool {
+        self.requests.contains_key(&number)
+    }
+
+    /// Whether the request of a number is asked for.
+    pub fn is_chosen(&self, number: u64) -> bool {
+        match self.requests.get(&number) {
+            Some(request) => request.is_chosen,
+            None => false,
+        }
+    }
+
+    /// Keeps lines at the request of a number.
+    pub fn keep(&mut self, number: u64, lines: &str) -> Result<(), AllocError> {
+        match self.requests.get_mut(&number) {
+            Some(request) => request.lines.push_str(lines),
+            None => Ok(()),
+        }
+    }
+
+    /// The lines that are kept at the request of a number.
+    pub fn kept(&self, number: u64) -> &str {
+        match self.requests.get(&number) {
+            Some(request) => &request.lines,
+            None => "",
         }
     }
 

@@ -7,6 +7,7 @@
 
 mod asked;
 mod block;
+mod choice;
 mod coming;
 mod direction;
 mod follow;
@@ -21,9 +22,11 @@ mod session;
 mod sink;
 mod steps;
 mod stop;
+mod telling;
 mod text;
 mod yaml;
 
 // what `giop trace` does
+pub use choice::Choice;
 pub use program::{Options, trace};
 pub use stop::{Failure, Stop};

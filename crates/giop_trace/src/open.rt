@@ -1,7 +1,8 @@
 //! A connection that is traced.
 
 use crate::direction::Direction;
-use giop_lines::{Caught, Endpoints, Stamp, later_time};
+use giop_core::Content;
+use giop_lines::{Caught, Closing, Ending, Endpoints, Stamp, later_time};
 use giop_tap::Sender;
 use std::alloc::{AllocError, Global};
 
@@ -18,6 +19,8 @@ pub(crate) struct Open {
     /// The packet of what came last of each side, with the latest time so far; none where packets are not known.
     opener_stamp: Option<Stamp>,
     acceptor_stamp: Option<Stamp>,
+    /// How it ends, as far as is known: a message says more than TCP does.
+    pub ending: Ending,
 }
 
 /// A stamp after an earlier one of the same side: octets count as come when all before them have.
@@ -41,6 +44,7 @@ impl Open {
             acceptor: Direction::new(alloc),
             opener_stamp: None,
             acceptor_stamp: None,
+            ending: Ending::Open,
         }
     }
 
@@ -55,6 +59,7 @@ impl Open {
             acceptor: Direction::new(alloc),
             opener_stamp: None,
             acceptor_stamp: None,
+            ending: Ending::Open,
         })
     }
 
@@ -64,6 +69,32 @@ impl Open {
             Sender::Opener => self.opener_stamp = Some(stamp_after(self.opener_stamp, stamp)),
             Sender::Acceptor => self.acceptor_stamp = Some(stamp_after(self.acceptor_stamp, stamp)),
         }
+    }
+
+    /// How many octets of a side have come, those that the capture missed among them.
+    pub fn end(&self, sender: Sender) -> u64 {
+        match sender {
+            Sender::Opener => self.opener.taken(),
+            Sender::Acceptor => self.acceptor.taken(),
+        }
+    }
+
+    /// Takes note of a message that ends it.
+    pub fn hear(&mut self, content: &Content) {
+        match content {
+            Content::Close => self.ending = Ending::Close,
+            Content::Error => self.ending = Ending::Error,
+            _ => {}
+        }
+    }
+
+    /// Takes note of a side that closes it.
+    pub fn close(&mut self, closing: Closing) {
+        self.ending = match (self.ending, closing) {
+            (Ending::Open | Ending::Fin, Closing::Reset) => Ending::Reset,
+            (Ending::Open, Closing::Fin) => Ending::Fin,
+            (ending, _) => ending,
+        };
     }
 
     /// The packet of what came last of a side.

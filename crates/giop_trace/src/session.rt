@@ -1,18 +1,15 @@
 //! Connections, as they are traced and printed: one after another, or by turns.
 
-use crate::asked::Asked;
 use crate::block::Piece;
 use crate::direction::Reading;
 use crate::open::Open;
 use crate::sink::Sink;
 use crate::steps::Step;
 use crate::stop::Stop;
-use giop_core::Content;
+use crate::telling::Teller;
 use giop_frames::Limits;
-use giop_lines::{
-    Closing, Counts, Endpoints, Left, Objects, Printer, Shown, Spot, Stamp, time_between,
-};
-use giop_tap::{Ends, Seen, Sender, Trace};
+use giop_lines::{Closing, Endpoints, Left, Spot, Stamp};
+use giop_tap::{Ends, Sender, Trace};
 use std::alloc::Global;
 use std::collections::BTreeMap;
 use std::io::Write;
@@ -23,56 +20,29 @@ use std::mem;
 pub(crate) struct Session {
     alloc: Global,
     reading: Reading,
-    printer: Printer,
     trace: Trace,
-    asked: Asked,
-    objects: Objects,
+    teller: Teller,
     /// The connection that the trace is on.
     open: Open,
     /// The others that have not ended.
     others: BTreeMap<u64, (Open, Ends)>,
     /// The first time that came.
     beginning: Option<u64>,
-    counts: Counts,
     /// Whether each direction so far ended after a message, with nothing left.
     pub is_clean: bool,
 }
 
-/// Counts what a message has to do with earlier ones.
-fn count(seen: &Seen, asked: &mut Asked, counts: &mut Counts) -> Result<(), Stop> {
-    if seen.tie.repeats.is_some() {
-        counts.repeats.push(seen.number)?;
-    }
-    match (&seen.message.content, seen.tie.request) {
-        (Content::Cancel(_), Some(request)) => asked.cancel(request),
-        (Content::Reply(_) | Content::LocateReply(_), None) => counts.strays.push(seen.number)?,
-        _ => {}
-    }
-    Ok(())
-}
-
-/// The request that a message answers, if it is an answer.
-fn answered_by(seen: &Seen) -> Option<u64> {
-    match &seen.message.content {
-        Content::Reply(_) | Content::LocateReply(_) => seen.tie.request,
-        _ => None,
-    }
-}
-
 impl Session {
     /// One in which nothing has come.
-    pub fn new(alloc: Global, limits: Limits, resumes: bool, printer: Printer) -> Session {
+    pub fn new(alloc: Global, limits: Limits, resumes: bool, teller: Teller) -> Session {
         Session {
             alloc,
             reading: Reading { limits, resumes },
-            printer,
             trace: Trace::new(alloc, limits),
-            asked: Asked::new(alloc),
-            objects: Objects::new(alloc),
+            teller,
             open: Open::none(alloc),
             others: BTreeMap::new(alloc),
             beginning: None,
-            counts: Counts::new(alloc),
             is_clean: true,
         }
     }
@@ -86,36 +56,21 @@ impl Session {
         }
     }
 
-    /// Prints the message that is lent, if one is.
-    fn print_seen<W: Write>(
-        &mut self,
-        sender: Sender,
-        end: u64,
-        out: &mut Sink<W>,
-    ) -> Result<(), Stop> {
+    /// Says what is to be said of the message that is lent, if one is.
+    fn tell_seen<W: Write>(&mut self, out: &mut Sink<W>) -> Result<(), Stop> {
         let Some(seen) = self.trace.seen() else {
             return Ok(());
         };
-        count(&seen, &mut self.asked, &mut self.counts)?;
-        let stamp = self.open.stamp(sender);
-        let time = stamp.and_then(|stamp| stamp.time);
-        self.asked.take(seen.number, &seen.message.content, time)?;
-        let answered = answered_by(&seen);
-        let latency = time_between(answered.and_then(|number| self.asked.time(number)), time);
-        let operation = self.asked.operation(seen.tie.request.unwrap_or(0));
-        let shown = Shown {
-            seen,
-            end,
-            operation,
-        };
-        let caught = self.open.caught(sender, self.beginning, latency);
-        let text = self
-            .printer
-            .message(shown, caught.as_ref(), &mut self.objects)?;
-        if let Some(number) = answered {
-            self.asked.forget(number);
+        self.open.hear(&seen.message.content);
+        self.teller.tell(seen, &self.open, self.beginning, out)
+    }
+
+    /// Prints what is wrong with octets, where it is asked for.
+    fn print_fault<W: Write>(&mut self, text: &str, out: &mut Sink<W>) -> Result<(), Stop> {
+        match self.teller.prints_faults() {
+            true => out.print(text),
+            false => Ok(()),
         }
-        out.print(&text)
     }
 
     /// Prints what came of a step.
@@ -123,22 +78,27 @@ impl Session {
         &mut self,
         sender: Sender,
         step: Step,
-        end: u64,
         out: &mut Sink<W>,
     ) -> Result<(), Stop> {
         match step {
             Step::Idle => {}
-            Step::Gave => self.print_seen(sender, end, out)?,
+            Step::Gave => self.tell_seen(out)?,
             Step::Fault(at, fault, looks) => {
-                self.counts.faults = self.counts.faults.saturating_add(1);
+                self.teller.counts.faults = self.teller.counts.faults.saturating_add(1);
                 self.is_clean = false;
-                let text = self.printer.fault(&self.spot(sender), at, fault, looks)?;
-                out.print(&text)?;
+                let text = self
+                    .teller
+                    .printer
+                    .fault(&self.spot(sender), at, fault, looks)?;
+                self.print_fault(&text, out)?;
             }
             Step::Passed(from, octets) => {
-                self.counts.pass(octets);
-                let text = self.printer.passed(&self.spot(sender), from, octets)?;
-                out.print(&text)?;
+                self.teller.counts.pass(octets);
+                let text = self
+                    .teller
+                    .printer
+                    .passed(&self.spot(sender), from, octets)?;
+                self.print_fault(&text, out)?;
             }
         }
         Ok(())
@@ -157,8 +117,7 @@ impl Session {
             Sender::Acceptor => &mut self.open.acceptor,
         };
         let (step, count) = direction.step(sender, reading, octets, &mut self.trace)?;
-        let end = direction.taken();
-        self.print_step(sender, step, end, out)?;
+        self.print_step(sender, step, out)?;
         Ok(count)
     }
 
@@ -199,10 +158,10 @@ impl Session {
             Sender::Opener => self.open.opener.miss(sender, octets, &mut self.trace),
             Sender::Acceptor => self.open.acceptor.miss(sender, octets, &mut self.trace),
         }
-        self.counts.miss(octets);
+        self.teller.counts.miss(octets);
         self.is_clean = false;
-        let text = self.printer.missing(&self.spot(sender), octets)?;
-        out.print(&text)
+        let text = self.teller.printer.missing(&self.spot(sender), octets)?;
+        self.print_fault(&text, out)
     }
 
     /// Prints what is left of a side.
@@ -214,12 +173,12 @@ impl Session {
     ) -> Result<(), Stop> {
         match left {
             Left::Nothing => return Ok(()),
-            Left::Passed(_, octets) => self.counts.pass(octets),
+            Left::Passed(_, octets) => self.teller.counts.pass(octets),
             Left::Rest(_, _) | Left::Unread(_) => {}
         }
         self.is_clean = false;
-        let text = self.printer.left(&self.spot(sender), left)?;
-        out.print(&text)
+        let text = self.teller.printer.left(&self.spot(sender), left)?;
+        self.print_fault(&text, out)
     }
 
     /// Ends the connection.
@@ -228,6 +187,7 @@ impl Session {
         self.print_left(Sender::Opener, left, out)?;
         let left = self.open.acceptor.left(Sender::Acceptor, &mut self.trace);
         self.print_left(Sender::Acceptor, left, out)?;
+        self.teller.count_ending(&self.open);
         self.open = Open::none(self.alloc);
         Ok(())
     }
@@ -250,15 +210,17 @@ impl Session {
         stamp: Option<Stamp>,
         out: &mut Sink<W>,
     ) -> Result<u64, Stop> {
-        let number = self.counts.connections.saturating_add(1);
-        self.counts.connections = number;
+        let number = self.teller.counts.connections.saturating_add(1);
+        self.teller.counts.connections = number;
         let fresh = Ends::new(self.alloc, self.reading.limits, number);
         self.set_aside(fresh)?;
         self.open = Open::new(self.alloc, number, ends)?;
         if stamp.is_some() && number == 1 {
-            out.print(&self.printer.head()?)?;
+            out.print(&self.teller.printer.head()?)?;
         }
-        out.print(&self.printer.connection(number, ends, stamp)?)?;
+        if self.teller.prints_connections() {
+            out.print(&self.teller.printer.connection(number, ends, stamp)?)?;
+        }
         Ok(number)
     }
 
@@ -304,8 +266,12 @@ impl Session {
         closing: Closing,
         out: &mut Sink<W>,
     ) -> Result<(), Stop> {
-        let text = self.printer.closed(&self.spot(sender), closing)?;
-        out.print(&text)
+        self.open.close(closing);
+        let text = self.teller.printer.closed(&self.spot(sender), closing)?;
+        match self.teller.prints_connections() {
+            true => out.print(&text),
+            false => Ok(()),
+        }
     }
 
     /// Traces octets of a side, and prints what comes of them.
@@ -315,11 +281,8 @@ impl Session {
 
     /// Prints what was counted.
     pub fn end<W: Write>(&mut self, out: &mut Sink<W>) -> Result<(), Stop> {
-        self.counts.messages = self.trace.ties().len() as u64;
-        self.counts.unanswered = self.trace.unanswered()?;
-        self.counts.cancelled = self
-            .asked
-            .cancelled_of(self.alloc, &self.counts.unanswered)?;
-        out.print(&self.printer.counts(&self.counts)?)
+        self.teller.counts.messages = self.trace.ties().len() as u64;
+        let unanswered = self.trace.unanswered()?;
+        self.teller.end(unanswered, out)
     }
 }

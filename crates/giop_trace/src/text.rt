@@ -281,7 +281,7 @@ impl Text {
         session: &mut Session,
         out: &mut Sink<W>,
     ) -> Result<(), Stop> {
-        if self.found == Found::Nothing && self.packets.is_none() && is_yaml(line) {
+        if self.found != Found::Connections && self.packets.is_none() && is_yaml(line) {
             self.packets = Some(Packets::new(self.alloc));
         }
         match &mut self.packets {
