@@ -23,6 +23,41 @@ pub(crate) struct Coming {
     is_acceptor_done: bool,
 }
 
+/// Begins the connection of a block, and returns its number.
+fn begin<W: Write>(
+    block: &mut Block,
+    session: &mut Session,
+    out: &mut Sink<W>,
+) -> Result<u64, Stop> {
+    block.decide();
+    block.is_traced = true;
+    let stamp = block.first_stamp();
+    let (opener, acceptor) = block.ends();
+    let ends = Endpoints {
+        stream: block.stream,
+        opener,
+        acceptor,
+    };
+    session.begin(&ends, stamp, out)
+}
+
+/// Hands on what is held of a block.
+fn hand_on_pieces<W: Write>(
+    block: &mut Block,
+    session: &mut Session,
+    out: &mut Sink<W>,
+) -> Result<(), Stop> {
+    for (sender, stamp, piece) in &block.pieces {
+        let sender = block.side_of(*sender);
+        if let Some(stamp) = stamp {
+            session.stamp(sender, *stamp);
+        }
+        session.take(sender, piece, out)?;
+    }
+    block.pieces.clear();
+    Ok(())
+}
+
 impl Coming {
     /// One of which nothing has come.
     pub fn new(alloc: Global, stream: Option<u64>) -> Coming {
@@ -42,26 +77,10 @@ impl Coming {
     /// Hands on what is held of it, and its line before it.
     fn hand_on<W: Write>(&mut self, session: &mut Session, out: &mut Sink<W>) -> Result<(), Stop> {
         if !self.block.is_traced {
-            self.block.decide();
-            self.block.is_traced = true;
-            let (opener, acceptor) = self.block.ends();
-            let ends = Endpoints {
-                stream: self.block.stream,
-                opener,
-                acceptor,
-            };
-            self.number = session.begin(&ends, self.block.first_stamp(), out)?;
+            self.number = begin(&mut self.block, session, out)?;
         }
         session.turn_to(self.number)?;
-        for (sender, stamp, piece) in &self.block.pieces {
-            let sender = self.block.side_of(*sender);
-            if let Some(stamp) = stamp {
-                session.stamp(sender, *stamp);
-            }
-            session.take(sender, piece, out)?;
-        }
-        self.block.pieces.clear();
-        Ok(())
+        hand_on_pieces(&mut self.block, session, out)
     }
 
     /// Takes note of a side that closes it.
