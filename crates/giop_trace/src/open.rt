@@ -1,9 +1,11 @@
 //! A connection that is traced.
 
-use crate::direction::Direction;
+use crate::direction::{Direction, Reading};
+use crate::steps::Step;
+use crate::stop::Stop;
 use giop_core::Content;
-use giop_lines::{Caught, Closing, Ending, Endpoints, Stamp, later_time};
-use giop_tap::Sender;
+use giop_lines::{Caught, Closing, Ending, Endpoints, Left, Stamp, later_time};
+use giop_tap::{Sender, Trace};
 use std::alloc::{AllocError, Global};
 
 /// A connection that is traced: its number, its ends, and how far each side has been read.
@@ -14,8 +16,8 @@ pub(crate) struct Open {
     stream: Option<u64>,
     opener_address: Vec<u8>,
     acceptor_address: Vec<u8>,
-    pub opener: Direction,
-    pub acceptor: Direction,
+    opener: Direction,
+    acceptor: Direction,
     /// The packet of what came last of each side, with the latest time so far; none where packets are not known.
     opener_stamp: Option<Stamp>,
     acceptor_stamp: Option<Stamp>,
@@ -68,6 +70,44 @@ impl Open {
         match sender {
             Sender::Opener => self.opener_stamp = Some(stamp_after(self.opener_stamp, stamp)),
             Sender::Acceptor => self.acceptor_stamp = Some(stamp_after(self.acceptor_stamp, stamp)),
+        }
+    }
+
+    /// Takes a step with octets of a side, and returns how many of them it took.
+    pub fn step(
+        &mut self,
+        sender: Sender,
+        reading: Reading,
+        octets: &[u8],
+        trace: &mut Trace,
+    ) -> Result<(Step, usize), Stop> {
+        match sender {
+            Sender::Opener => self.opener.step(sender, reading, octets, trace),
+            Sender::Acceptor => self.acceptor.step(sender, reading, octets, trace),
+        }
+    }
+
+    /// Goes on behind octets of a side that the capture missed.
+    pub fn miss(&mut self, sender: Sender, octets: u64, trace: &mut Trace) {
+        match sender {
+            Sender::Opener => self.opener.miss(sender, octets, trace),
+            Sender::Acceptor => self.acceptor.miss(sender, octets, trace),
+        }
+    }
+
+    /// What is left of a side at its end.
+    pub fn left(&self, sender: Sender, trace: &mut Trace) -> Left {
+        match sender {
+            Sender::Opener => self.opener.left(sender, trace),
+            Sender::Acceptor => self.acceptor.left(sender, trace),
+        }
+    }
+
+    /// Whether a step of a side is due before more octets come.
+    pub fn is_due(&self, sender: Sender) -> bool {
+        match sender {
+            Sender::Opener => self.opener.is_due(),
+            Sender::Acceptor => self.acceptor.is_due(),
         }
     }
 

@@ -111,22 +111,11 @@ impl Session {
         octets: &[u8],
         out: &mut Sink<W>,
     ) -> Result<usize, Stop> {
-        let reading = self.reading;
-        let direction = match sender {
-            Sender::Opener => &mut self.open.opener,
-            Sender::Acceptor => &mut self.open.acceptor,
-        };
-        let (step, count) = direction.step(sender, reading, octets, &mut self.trace)?;
+        let (step, count) = self
+            .open
+            .step(sender, self.reading, octets, &mut self.trace)?;
         self.print_step(sender, step, out)?;
         Ok(count)
-    }
-
-    /// Whether a step of a side is due before more octets come.
-    fn is_due(&self, sender: Sender) -> bool {
-        match sender {
-            Sender::Opener => self.open.opener.is_due(),
-            Sender::Acceptor => self.open.acceptor.is_due(),
-        }
     }
 
     /// Traces octets of a side.
@@ -140,7 +129,7 @@ impl Session {
         for _ in 0..u64::MAX {
             let count = self.step(sender, left, out)?;
             left = left.get(count..).unwrap_or(&[]);
-            if left.is_empty() && !self.is_due(sender) {
+            if left.is_empty() && !self.open.is_due(sender) {
                 break;
             }
         }
@@ -154,10 +143,7 @@ impl Session {
         octets: u64,
         out: &mut Sink<W>,
     ) -> Result<(), Stop> {
-        match sender {
-            Sender::Opener => self.open.opener.miss(sender, octets, &mut self.trace),
-            Sender::Acceptor => self.open.acceptor.miss(sender, octets, &mut self.trace),
-        }
+        self.open.miss(sender, octets, &mut self.trace);
         self.teller.counts.miss(octets);
         self.is_clean = false;
         let text = self.teller.printer.missing(&self.spot(sender), octets)?;
@@ -183,9 +169,9 @@ impl Session {
 
     /// Ends the connection.
     pub fn end_connection<W: Write>(&mut self, out: &mut Sink<W>) -> Result<(), Stop> {
-        let left = self.open.opener.left(Sender::Opener, &mut self.trace);
+        let left = self.open.left(Sender::Opener, &mut self.trace);
         self.print_left(Sender::Opener, left, out)?;
-        let left = self.open.acceptor.left(Sender::Acceptor, &mut self.trace);
+        let left = self.open.left(Sender::Acceptor, &mut self.trace);
         self.print_left(Sender::Acceptor, left, out)?;
         self.teller.count_ending(&self.open);
         self.open = Open::none(self.alloc);
