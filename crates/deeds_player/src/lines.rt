@@ -14,7 +14,11 @@
 //! - `decline`, `withdraw NUMBER`: with TRANSIENT and the minor code 0
 //!
 //! `hide` takes the counter away from what is on offer and `show` offers it again, unless a request of it is parked; `drop`
-//! takes it away also then; `bound N` allows the ids of clients N octets. While a request waits nothing of this changes.
+//! takes it away also then; `bound N` allows the ids of clients N octets; `first` has the owner be asked first, and `last` no
+//! longer. While a request waits nothing of this changes.
+//!
+//! `refuse` and `refuse NUMBER` are `decline` and `withdraw` with what would refuse the request that waits, or is parked. Where
+//! nothing would it prints `no`, and is no deed.
 //!
 //! The line `counts` prints the engine's counts, `ending C` why a connection ended, and `heard` what became of each request
 //! since the last one. `tick NOW` tells the engine a moment, and prints its moment, how many outcomes it keeps, how many of the client
@@ -27,7 +31,7 @@ use crate::deeds::{deed_in, number};
 use crate::heard::HeardCounter;
 use crate::printing::{print_counts, print_ended, print_ending, print_written};
 use counter::Counter;
-use ft_log::Retention;
+use ft_log::{Retention, SystemName};
 use ft_orb::{Deed, Engine, Places, play_deeds};
 use giop_frames::Limits;
 use std::alloc::Global;
@@ -124,6 +128,44 @@ fn bound<W: Write>(
     Ok(())
 }
 
+/// Has the owner be asked first, or not.
+fn ask_first<W: Write>(
+    engine: &mut Engine<HeardCounter>,
+    is_first: bool,
+    out: &mut W,
+) -> Result<(), Stop> {
+    if engine.asked().is_some() {
+        return Ok(writeln!(out, "asking")?);
+    }
+    engine.ask_first(is_first);
+    Ok(())
+}
+
+/// What would refuse the request that waits, if one waits and anything would.
+fn refusal(engine: &Engine<HeardCounter>) -> Option<SystemName> {
+    engine.asked()?.refused
+}
+
+/// .. or the one that is parked under a number.
+fn parked_refusal(engine: &Engine<HeardCounter>, number: u64) -> Option<SystemName> {
+    engine.parked(number)?.refused
+}
+
+/// Refuses the request that waits, or the one that is parked under the number of a word, as it would be.
+fn refuse<W: Write>(player: &mut Player, word: Option<&str>, out: &mut W) -> Result<(), Stop> {
+    let deed = match word {
+        None => refusal(&player.engine).map(|name| Deed::Decline(name, 0)),
+        Some(word) => {
+            let number = number(word)?;
+            parked_refusal(&player.engine, number).map(|name| Deed::Withdraw(number, name, 0))
+        }
+    };
+    match deed {
+        Some(deed) => Ok(player.deeds.push(deed)?),
+        None => Ok(writeln!(out, "no")?),
+    }
+}
+
 /// Takes a line for an engine.
 fn take_deed<W: Write>(
     alloc: Global,
@@ -141,8 +183,14 @@ fn take_deed<W: Write>(
     if let Some(word) = line.strip_prefix("bound ") {
         return bound(&mut player.engine, number(word)?, out);
     }
+    if let Some(word) = line.strip_prefix("refuse ") {
+        return refuse(player, Some(word), out);
+    }
     match line {
         "play" => play(alloc, player, out),
+        "first" => ask_first(&mut player.engine, true, out),
+        "last" => ask_first(&mut player.engine, false, out),
+        "refuse" => refuse(player, None, out),
         "hide" => offer(&mut player.engine, true, out),
         "show" => offer(&mut player.engine, false, out),
         "drop" => drop_counter(&mut player.engine, out),

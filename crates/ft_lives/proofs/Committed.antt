@@ -164,5 +164,6 @@ module _ (lives : ℕ → Life) where
         arrived = contains-along (x.front ++ x.last ∷ []) (completed s.limits g.past (part_of f.part)) x.last (sym x.completes) (Contains-push x.front x.last);
         field = x.field ∙ w.field;
         asks = x.asks ∙ ap (λ (c : Call). Ok c) w.call;
+        would = x.refused;
         in_time = acts-in-time s t x.last row.key row.expiration w.request.field (w.request.call ∷ []) x.field w.field g.held acts (omega arith);
       }

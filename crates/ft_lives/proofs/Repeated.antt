@@ -299,6 +299,9 @@ module _ (lives : ℕ → Life) where
         before = f.before;
         after = f.after;
         point = f.point;
+        request = f.request;
+        asked = f.asked;
+        numbered = f.numbered;
         free = f.free;
         uncommitted = free.1;
         still = λ none. subst (λ (l : List Step). held_for key (stored l) ≡ None) (sym f.point) (free-stays steps rest key kept f.before f.after (is ∙ ap (λ (l : List Step). l ++ rest) f.point) f.free none);

@@ -81,6 +81,9 @@ module _ {State : Type 0} (apply : State → Call → State × Performed) where
   pub passes-nothing : (s : Shown State) → Passes apply s [] s
   passes-nothing s = record { allowed = tt; store = refl; state = refl }
 
+  waits-nothing : (life : ℕ) (s : Shown State) → Waits apply life s s
+  waits-nothing life s = record { changes = []; passes = passes-nothing s; others = λ ask row there own. absurd (omega (arith, there.1)); doubts = refl }
+
   module _ (life : ℕ) (d : Doubt) where
     in-more : (doubts : List Doubt) (x : Doubt) → Contains doubts x → Contains (d ∷ doubts) x
     in-more doubts x there = Contains-append_right (d ∷ []) doubts x there
@@ -181,6 +184,10 @@ module _ {State : Type 0} (apply : State → Call → State × Performed) where
         → IsOnce apply life d old verdict.Decline new
     told-failed doubtful old was mid new sure a v free w = far-freed old was mid new (subst (λ (b : Bool). IsSoFar apply life d b old was) sure a) v free w
 
+    -- it was free, and nothing was tried
+    pub told-free : (old was mid : Shown State) → IsSoFar apply life d false old was → Waits apply life was mid → held_for d.key mid.store ≡ None → IsOnce apply life d old verdict.Decline mid
+    told-free old was mid a w free = far-freed old was mid mid a w free (waits-nothing life mid)
+
     pub again-waits : (doubtful : Bool) (old was mid new : Shown State) → IsSoFar apply life d doubtful old was → Waits apply life was mid → Waits apply life mid new → IsSoFar apply life d doubtful old new
     again-waits doubtful old was mid new a v w = far-waits doubtful old mid new (far-waits doubtful old was mid a v) w
 
@@ -197,6 +204,10 @@ module _ {State : Type 0} (apply : State → Call → State × Performed) where
   pub commit-along : (life now : ℕ) (asked : Asked) (key : RequestKey) (expiration : ℕ) (old new : Shown State) (c : Commit) → now ≡ life
       → IsCommit apply now (record { ask = ask_of now asked; key = key; expiration = expiration }) old c new → IsCommit apply life (record { ask = ask_of life asked; key = key; expiration = expiration }) old c new
   commit-along life now asked key expiration old new c same h = subst (λ (n : ℕ). IsCommit apply n (record { ask = ask_of n asked; key = key; expiration = expiration }) old c new) same h
+
+  -- .. and a look-up
+  pub waits-along : (life now : ℕ) (old new : Shown State) → now ≡ life → Waits apply now old new → Waits apply life old new
+  waits-along life now old new same h = subst (λ (n : ℕ). Waits apply n old new) same h
 
   -- .. and a try
   pub again-along : (life now : ℕ) (asked : Asked) (key : RequestKey) (expiration : ℕ) (before after : Bool) (old was new : Shown State) → now ≡ life

@@ -7,7 +7,7 @@ use Rattle.ft_orb.specs.Deeds.{Deed, Part, Stopped, after_deeds, opening, part_o
 use Rattle.ft_orb.specs.Engines.{Awaited}
 use Rattle.ft_orb.specs.ExactlyOnce.{Arrival, Present}
 use Rattle.ft_orb.specs.History.{completed}
-use Rattle.ft_orb.specs.Requests.{Wanted, asked_at}
+use Rattle.ft_orb.specs.Requests.{Wanted, asked_at, refusal_at}
 use Rattle.ft_lives.specs.Lives.{AreLives, IsKept, Life, OneExpirationOf, Step, Stored, deeds_of}
 use Rattle.ft_lives.specs.Owned.{IsOwned, WasHeld}
 use Rattle.ft_lives.specs.Stores.{Ask, Committed, Row}
@@ -55,6 +55,7 @@ module _ (lives : ℕ → Life) where
     pub arrived : Contains (completed (lives ask.life).settings.limits (after_deeds (lives ask.life).settings (opening (lives ask.life).held) early).past (part_of part)) arrival
     pub field : arrival.field ≡ Present row.key row.expiration
     pub asks : asked_at (lives ask.life).settings.terms arrival.content ≡ Ok ask.call
+    pub would : request.refused ≡ refusal_at (lives ask.life).settings.terms arrival.content
     pub in_time : arrival.clock ≤ row.expiration
 
   abbrev pub CommitsWereAdmitted : Type 0

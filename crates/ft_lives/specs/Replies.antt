@@ -1,22 +1,23 @@
 -- What lives reply, and what the store held then.
-use Rattle.std.specs.Prelude.{◌≡◌, ◌<◌, ◌≤◌, ℕ, false, List, [], ◌∷◌, ◌++◌, length, Contains, Option, Some, None, Result, Ok, Err, ◌⊎◌}
+use Rattle.std.specs.Prelude.{◌≡◌, ◌<◌, ◌≤◌, ℕ, true, false, List, ◌∷◌, ◌++◌, length, Contains, Option, Some, None, Result, Ok, Err, ◌⊎◌}
 use Rattle.std.specs.List.{list_any}
 use Rattle.std.specs.Option.{option_map}
+use Rattle.giop_link.specs.Hearing.{Question}
 use Rattle.ft_log.specs.Holding.{known, parked}
 use Rattle.ft_log.specs.Keys.{RequestKey}
 use Rattle.ft_log.specs.Performed.{Performed}
 use Rattle.ft_log.specs.declared.system_exception.Completion.TheVariants.{No}
 use Rattle.ft_log.specs.declared.system_exception.SystemName.{SystemName}
-use Rattle.ft_log.specs.declared.system_exception.SystemName.TheVariants.{BadContext}
+use Rattle.ft_log.specs.declared.system_exception.SystemName.TheVariants.{BadContext, NoResources}
 use Rattle.ft_orb.specs.Deeds.{Answered, AnsweredUnkept, Deed, GivenUp, Happened, Joined, Ledger, Parked, Settled, SettledUnkept, Stopped, Told, part_of, settles}
 use Rattle.ft_orb.specs.Engines.{Awaited}
 use Rattle.ft_orb.specs.ExactlyOnce.{Arrival, Present}
 use Rattle.ft_orb.specs.History.{Event, completed}
 use Rattle.ft_orb.specs.Owners.{owned_rules, owned_table}
 use Rattle.ft_orb.specs.Parking.{Settings, by_number, not_now}
-use Rattle.ft_orb.specs.Requests.{Wanted}
+use Rattle.ft_orb.specs.Requests.{Origin, Wanted, asking, field_of, is_named_within}
 use Rattle.ft_orb.specs.Table.{table_after, table_step}
-use Rattle.ft_lives.specs.Lives.{AreLives, Did, IsKept, Life, Step, Stored, deeds_of, ledger_of, stored}
+use Rattle.ft_lives.specs.Lives.{AreLives, Did, IsKept, Life, Step, Stored, deeds_of, ledger_of, requests_of, stored}
 use Rattle.ft_lives.specs.Owned.{IsException, IsMaybe, IsOwned, WasHeld, WasOver}
 use Rattle.ft_lives.specs.Stores.{Ask, Committed, Row, held_for}
 
@@ -41,12 +42,15 @@ pub record Says (s : Settings) (g : Ledger) (d : Deed) (a : Arrival Wanted) (ans
   pub completes : completed s.limits g.past event ≡ front ++ a ∷ rest
   pub says : (table_step (owned_rules (by_number s g.held)) (table_after (owned_rules (by_number s g.held)) (owned_table (by_number s g.held) g.past) front) a).1 ≡ answer
 
--- Nothing is committed for this request, and the store held nothing for its key when that was looked up; and it holds nothing still, where
--- no other commits the key in between.
+-- Nothing is committed for this request, and the store held nothing for its key when that was looked up, once the request had been asked
+-- for; and it holds nothing still, where no other commits the key in between.
 pub record IsFree (steps front : List Step) (life number : ℕ) (key : RequestKey) : Type 0 where
   pub before : List Step
   pub after : List Step
   pub point : front ≡ before ++ after
+  pub request : Awaited
+  pub asked : Contains (requests_of life before) request
+  pub numbered : request.number ≡ number
   pub free : held_for key (stored before) ≡ None
   pub uncommitted : (ask : Ask) (row : Row) → Contains steps (Stored (Committed ask row)) → ask.life ≡ life → ask.number ≡ number → ⊥
   pub still : ((ask : Ask) (row : Row) → Contains after (Stored (Committed ask row)) → row.key ≡ key → ⊥) → held_for key (stored front) ≡ None
@@ -98,6 +102,13 @@ module _ (lives : ℕ → Life) where
   RefusedAreFree = (steps front rest : List Step) (n : ℕ) (d : Deed) (a : Arrival Wanted) (name : SystemName) (key : RequestKey) (expiration : ℕ) → RefusesNoneHeld steps
       → steps ≡ front ++ Did n d ∷ rest → Says (lives n).settings (ledger_of lives n front) d a (Err name) → a.field ≡ Present key expiration
       → ((name ≡ BadContext) × (expiration < a.clock)) ⊎ (held_for key (stored front) ≡ None)
+
+  -- Where a life asks its owner first, it refuses none for its target or its arguments: one that is not over, whose client's id is within
+  -- the bound, is refused for want of room alone.
+  abbrev pub FirstsLackRoomInLives : Type 0
+  FirstsLackRoomInLives = (steps front rest : List Step) (n : ℕ) (d : Deed) (a : Arrival Wanted) (c : Origin) (q : Question) (name : SystemName) (key : RequestKey) (expiration : ℕ)
+      → steps ≡ front ++ Did n d ∷ rest → Says (lives n).settings (ledger_of lives n front) d a (Err name) → a.content ≡ asking c q → a.field ≡ Present key expiration → field_of q.contexts ≡ Present key expiration
+      → a.clock ≤ expiration → ((lives n).settings.terms c.changes).first ≡ true → is_named_within ((lives n).settings.terms c.changes).longest key.client_id ≡ true → name ≡ NoResources
 
   -- What an owner tells unkept is what the store held for the key, says COMPLETED_MAYBE, or says COMPLETED_NO of what is over or free.
   abbrev pub UnkeptAreRight : Type 0

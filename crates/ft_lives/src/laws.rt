@@ -5,7 +5,7 @@ ghost use Rattle.std.specs.Prelude.{ℕ};
 ghost use Rattle.ft_lives.specs.Keeping.{OnceIsOwned, StoresMayForget};
 ghost use Rattle.ft_lives.specs.Laws.{CommitsComeLater, CommitsWereAdmitted, HeldIsCommitted, KeyCommitsOnce};
 ghost use Rattle.ft_lives.specs.Lives.{Life};
-ghost use Rattle.ft_lives.specs.Replies.{DeclinedAreFree, RefusedAreFree, RepeatsAreHeld, ToldAreHeld, UnkeptAreRight, WaitersAreToldRightly};
+ghost use Rattle.ft_lives.specs.Replies.{DeclinedAreFree, FirstsLackRoomInLives, RefusedAreFree, RepeatsAreHeld, ToldAreHeld, UnkeptAreRight, WaitersAreToldRightly};
 ghost use Rattle.ft_lives.specs.Serial.{SerialIsOfCommits};
 ghost use Rattle.ft_lives.specs.Together.{LivesActOnce};
 
@@ -48,12 +48,17 @@ pub fn replies_are_held()
     giop_link::laws::streams_are_heard::<giop_link::Server>();
 }
 
-/// No refusal is of a key that the store holds, but BAD_CONTEXT of a request that is over: of its owner, and of an engine
-/// of whose own refusals none is of a key that is held.
+/// No refusal with COMPLETED_NO is of a key that the store held when it was looked up, but BAD_CONTEXT of a request that is
+/// over, and one that is itself the outcome: of its owner, and of an engine of whose own refusals none is of a key that is
+/// held. An engine that asks its owner first refuses for want of room alone, where a request is not over and its client's
+/// id is within the bound.
 pub fn refused_are_free()
     ensures engine { (lives : ℕ → Life) → RefusedAreFree lives }
+    ensures first { (lives : ℕ → Life) → FirstsLackRoomInLives lives }
     ensures owner { (lives : ℕ → Life) → DeclinedAreFree lives }
-{}
+{
+    ft_orb::laws::firsts_are_asked();
+}
 
 /// Where transactions are serial the state is that of the committed calls, each once, in the order of the commits, with what
 /// others wrote in between, and the rows have their outcomes.

@@ -15,5 +15,5 @@ mod store;
 
 pub use memory::MemoryStore;
 pub use once::Verdict;
-pub use steps::perform_once;
+pub use steps::{look_once, perform_once};
 pub use store::{Commit, Found, Store};

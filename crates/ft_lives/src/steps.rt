@@ -42,6 +42,29 @@ fn try_once<S: Store>(
     }
 }
 
+/// Takes an owner's steps for a request that waits and would be refused (`Engine::ask_first`), at most so many times: looks it
+/// up, and performs nothing. It declines only what the store holds nothing of.
+pub fn look_once<S: Store>(
+    alloc: Global,
+    store: &mut S,
+    asked: &Asked<'_>,
+    request: FtRequest<'_>,
+    tries: u32,
+) -> Verdict
+    ensures once { IsOnce S.apply (S.life store.old) (record { ask = ask_of (S.life store.old) asked.now; key = key_of request.entry.key.now; expiration = request.entry.expiration }) (S.shown store.old) result (S.shown store.new) }
+    ensures life { S.life store.new ≡ S.life store.old }
+{
+    for _attempt in 0..tries {
+        match store.find(alloc, request.key, request.expiration) {
+            Found::Over => return Verdict::Over,
+            Found::Held(outcome) => return Verdict::Answer(outcome),
+            Found::Free => return Verdict::Decline,
+            Found::Silent => {}
+        }
+    }
+    Verdict::Unknown
+}
+
 /// Takes an owner's steps for a request that waits, at most so many times: looks it up; answers by what is there; else
 /// commits its effect and its row at once, and answers then. Where no answer came to a commit it looks up again, and
 /// performs again: the store lets one of them come true. It declines only what can't come true any more.

@@ -50,7 +50,7 @@ use Rattle.ft_orb.proofs.Declined.{pasts-stand}
 use Rattle.ft_orb.proofs.Folded.{table_after-append}
 use Rattle.ft_orb.proofs.Headline.{past_stands_by}
 use Rattle.ft_orb.proofs.Late.{below-past, links-go, tally-is}
-use Rattle.ft_orb.proofs.Ledgers.{answered-are-known, calls-are-taken, settled-unkept-are-known, answered-unkept-are-known, runs-join, theirs-later, told-are-known, told-once, twice}
+use Rattle.ft_orb.proofs.Ledgers.{answered-are-known, calls-are-taken, settled-unkept-are-known, answered-unkept-are-known, runs-join, theirs-later, told-are-known, told-once, twice, unkept-later}
 use Rattle.ft_orb.proofs.Acts.{asks-acts, one-question, same-front}
 use Rattle.ft_orb.proofs.Placed.{all-within, came-within, count-same, nobody-under}
 use Rattle.ft_orb.proofs.Numbers.{AreBelow, after-below, all-filter}
@@ -238,7 +238,7 @@ module _ {C : Type 0} (offers : C → Offer) (s : Settings) where
       let number = numbered.1 in
       let y = x.stops nothing_yet in
       let z = x.asks in
-      let w : Awaited = record { number = y.number; connection = c; call = y.call; field = y.field } in
+      let w : Awaited = record { number = y.number; connection = c; call = y.call; field = y.field; refused = y.refused } in
       let same : z.3.number ≡ y.number = (let both : Some z.3 ≡ Some w = sym z.5.asks.waits ∙ y.asks.waits in let eq : z.3 ≡ w = cc in ap (λ (v : Awaited). v.number) eq) in
       let first : y.number ≡ asks_in old = (let both : Some y.number ≡ Some (asks_in old) = ap (λ (o : Option Awaited). option_map (λ (w : Awaited). w.number) o) (sym y.asks.waits) ∙ number in cc) in
       let wrote : y.written ≡ out = sym (y.appended ∙ ap (λ (l : List ℕ). l ++ y.written) none) in
@@ -250,7 +250,7 @@ module _ {C : Type 0} (offers : C → Offer) (s : Settings) where
       wrote ∙ sym same ∙ z.asks.out ∙ ap (λ (l : List (Arrival Wanted)). output_cut s.limits (numbering s late g.held).tell (owned_says (numbering s late g.held)) g.past (Piece c moment (take taken piece)) (length l)) fronts) in (
         Stopped (record { connection = c; moment = moment; piece = piece; taken = taken }) y.written w y.asks.question,
         of,
-        (r.none, record { connection = refl; number = first ∙ r.shows.asked; front = y.asks.front; last = y.asks.last; completes = y.asks.completes; short = y.short; content = y.asks.content; asks = y.asks.asks; field = y.asks.field; out = octets-of; before = acts.0; acts = acts.1 }),
+        (r.none, record { connection = refl; number = first ∙ r.shows.asked; front = y.asks.front; last = y.asks.last; completes = y.asks.completes; short = y.short; content = y.asks.content; asks = y.asks.asks; field = y.asks.field; refused = y.asks.refused; out = octets-of; before = acts.0; acts = acts.1 }),
         ap (λ (l : List ℕ). record { connection = c; octets = l; note = Done } ∷ []) wrote,
         refl,
         record {
@@ -690,4 +690,6 @@ module _ (s : Settings) where
     told = λ n. told-once s stay (opening held) ds n runs (λ m. refl);
     theirs = λ xs ms ys i j n outcome told is low held-there none.
         theirs-later s (opening held) xs ms ys i j n outcome told (λ i j n less. absurd (omega (arith, less))) (subst (λ (l : List Deed). Runs s (opening held) l) is runs) low held-there none;
+    theirs_unkept = λ xs ms ys i j n outcome told is low held-there none.
+        unkept-later s (opening held) xs ms ys i j n outcome told (λ i j n less. absurd (omega (arith, less))) (subst (λ (l : List Deed). Runs s (opening held) l) is runs) low held-there none;
   }

@@ -246,7 +246,7 @@ module _ {C : Type 0} (offers : C → Offer) (s : Settings) where
   stops-late stay held calls old new past waiting c moment piece taken before out p h stops waits number asks parks places =
       let each : (late : Later) → StopsOf offers (numbering s late held) calls past c moment piece taken new before out = λ late. stops late (rests-known s offers nothing_yet late held held calls old past (λ i less. refl) h.rests) in
       let x = each nothing_yet in
-      let w : Awaited = record { number = x.number; connection = c; call = x.call; field = x.field } in
+      let w : Awaited = record { number = x.number; connection = c; call = x.call; field = x.field; refused = x.refused } in
       let same : Some w ≡ Some (awaited_of p) = sym x.asks.waits ∙ ap (λ (o : Option Pending). option_map awaited_of o) waits in
       let is : x.number ≡ p.number = let both : w ≡ awaited_of p = cc in ap (λ (v : Awaited). v.number) both in
       record {

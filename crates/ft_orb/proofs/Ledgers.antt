@@ -531,5 +531,10 @@ module _ (s : Settings) where
   theirs-later g [] ms ys i j n outcome told apart runs = settled-are-theirs g ms ys i j n outcome told apart runs
   theirs-later g (x ∷ xs) ms ys i j n outcome told apart runs = theirs-later (after_deed s g x) xs ms ys i j n outcome told (apart-deed g x runs.0 apart) runs.1
 
+  pub unkept-later : (g : Ledger) (xs ms ys : List Deed) (i j n : ℕ) (outcome : Performed) (told : List Told) → AreApart g → Runs s g (xs ++ (ms ++ SettledUnkept j n outcome told ∷ ys))
+      → i < length (after_deeds s g xs).calls → (after_deeds s g xs).held i ≡ parked n → list_any (settles n) ms ≡ false → i ≡ j
+  unkept-later g [] ms ys i j n outcome told apart runs = unkept-are-theirs g ms ys i j n outcome told apart runs
+  unkept-later g (x ∷ xs) ms ys i j n outcome told apart runs = unkept-later (after_deed s g x) xs ms ys i j n outcome told (apart-deed g x runs.0 apart) runs.1
+
   pub joined-are-no-calls : JoinedAreNoCalls s
   joined-are-no-calls g p written n joined taken h = (sym h.2 ∙ taken, refl)

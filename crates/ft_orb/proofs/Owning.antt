@@ -33,15 +33,16 @@ use Rattle.ft_orb.specs.declared.serving.Cut.{Cut}
 use Rattle.ft_objects.specs.Catalogues.{Offer}
 use Rattle.ft_orb.specs.Offerings.{terms_by}
 use Rattle.ft_orb.specs.Engines.{AsksOf, AsksOnceOf, Awaited, EndsOf, EndsOnceOf, IsDueOf, IsOnceOf, KeepsOf, RestsOf, ResumesOf, ResumesOnceOf, StandsOf, StopsOf, as_server, awaited_of, waits_in, pending_in, terms_in}
-use Rattle.ft_orb.specs.ExactlyOnce.{Arrival, ClocksGrow, OneExpiration, Rules, state_of}
+use Rattle.ft_orb.specs.ExactlyOnce.{Absent, Arrival, Bad, ClocksGrow, Field, OneExpiration, Present, Rules, state_of}
 use Rattle.ft_orb.specs.History.{Event, Gone, Line, Piece, Shut, Up, arrivals, arrivals_in, arrivals_on, changes, clock, completed, front_on, line, longer, origin, shortened}
-use Rattle.ft_objects.specs.Interfaces.{AreArgumentsOf}
+use Rattle.cdr_core.specs.Value.{Values}
+use Rattle.ft_objects.specs.Interfaces.{Interface}
 use Rattle.ft_orb.specs.Outputs.{WritesBy, after, output_cut}
 use Rattle.ft_orb.specs.Owners.{OwnerOf, Voice, answered_so_far, kept_of, owned_rules, owned_says, owned_table, owner_rules, voice_of}
 use Rattle.ft_orb.specs.Pauses.{Breaks, IsServedTo, Joined, Paused, Reaches}
 use Rattle.ft_orb.specs.Private.{IsPut, Served, counted_by, all_answered}
 use Rattle.ft_orb.specs.Tellings.{octets_if, rendered, reply_by, told_at}
-use Rattle.ft_orb.specs.Requests.{Call, Origin, Terms, Wanted, asked_at, asking}
+use Rattle.ft_orb.specs.Requests.{AreAsked, Call, Origin, Terms, Wanted, asked_at, asking, first_with, refusal_at}
 use Rattle.ft_orb.specs.Standing.{IsFor, IsSameBut, Shown, capacity_of, share_of, table_of}
 use Rattle.ft_orb.specs.Table.{AreAlike, Table, table_after, table_answers, table_step}
 use Rattle.ft_orb.specs.Waits.{Finishes, asker_of, call_of, field_with, kept_with}
@@ -87,6 +88,15 @@ pub breaks-is : (terms : ℕ → Terms) (voice : Voice) (capacity share : ℕ) (
     → Breaks terms voice capacity share limits c now t s start piece calls at entries out → Breaks terms voice capacity share limits c now t s start piece calls at entries out
 breaks-is terms voice capacity share limits c now t s start piece calls at entries out h = h
 
+-- what is asked of a field is asked where its owner is asked first
+asked-with : (first : Bool) (f : Field) (refused : Option SystemName) (i : Interface) (arguments : Values) → AreAsked (first_with first f) refused i arguments → AreAsked first refused i arguments
+asked-with first f None i arguments h = h
+asked-with false Absent (Some name) i arguments h = h
+asked-with false Bad (Some name) i arguments h = h
+asked-with true Absent (Some name) i arguments h = absurd h
+asked-with true Bad (Some name) i arguments h = absurd h
+asked-with first (Present key e) (Some name) i arguments h = h
+
 -- nothing is pending, so nothing waits
 -- .. whatever is in the slot
 pub still-idle : (o : Option Ask) (w v : Waiting) → option_map awaited_of (pending_of w o) ≡ None → option_map awaited_of (pending_of v o) ≡ None
@@ -128,7 +138,8 @@ module _ {C Outcome : Type 0} (offers : C → Offer) (owner : OwnerOf Outcome) w
     pub completes : completed owner.limits past (Piece c moment octets) ≡ front ++ last ∷ []
     pub asks : asked_at owner.terms last.content ≡ Ok (call_of w)
     pub field : last.field ≡ field_with w.retained
-    pub fit : AreArgumentsOf ((owner.terms (changes past)).interface w.object_key.items w.operation.items) (values_of w.arguments.items)
+    pub refused : w.refused ≡ refusal_at owner.terms last.content
+    pub fit : AreAsked (owner.terms (changes past)).first w.refused ((owner.terms (changes past)).interface w.object_key.items w.operation.items) (values_of w.arguments.items)
     pub out : written ≡ output_cut owner.limits owner.tell Says past (Piece c moment octets) (length front)
     pub count : handled ≡ length front
     pub first : (n : ℕ) → n < length octets → length (completed owner.limits past (Piece c moment (take n octets))) ≤ length front
@@ -162,7 +173,8 @@ module _ {C Outcome : Type 0} (offers : C → Offer) (owner : OwnerOf Outcome) w
         completes = all;
         asks = p.waits.asks;
         field = p.waits.field;
-        fit = subst (λ (o : Origin). AreArgumentsOf ((owner.terms o.changes).interface w.object_key.items w.operation.items) (values_of w.arguments.items)) from p.waits.spells.fit;
+        refused = p.waits.refused;
+        fit = subst (λ (o : Origin). AreAsked (owner.terms o.changes).first w.refused ((owner.terms o.changes).interface w.object_key.items w.operation.items) (values_of w.arguments.items)) from (asked-with (owner.terms p.waits.c.changes).first p.a.field w.refused _ _ p.waits.spells.fit);
         out = p.out ∙ ap (rendered (told_at owner.late owner.terms) p.before) one.1 ∙ rendered-seen (book_by owner) p.before (table_answers Theirs (Folded past) p.before) ∙ sym (rendered-more Theirs owner.tell (Folded past) p.before (p.a ∷ []))
             ∙ sym (ap (λ (xs : List (Arrival Wanted)). rendered owner.tell (take (length p.before) xs) (table_answers Theirs (Folded past) xs)) all
             ∙ ap (λ (xs : List (Arrival Wanted)). rendered owner.tell xs (table_answers Theirs (Folded past) (p.before ++ p.a ∷ []))) (take-append_seam p.before (p.a ∷ [])));
@@ -208,6 +220,7 @@ module _ {C Outcome : Type 0} (offers : C → Offer) (owner : OwnerOf Outcome) w
         completes = b.completes;
         asks = b.asks;
         field = b.field;
+        refused = b.refused;
         fit = b.fit;
         out = b.out;
         question = b.question;
@@ -293,6 +306,7 @@ module _ {C Outcome : Type 0} (offers : C → Offer) (owner : OwnerOf Outcome) w
             number = number;
             call = call_of w;
             field = field_with w.retained;
+            refused = w.refused;
             asks = a;
             short = short-by past c moment piece place.taken s (length a.front + 1) b.front b.last up within b.completes b.first (omega (arith, size, all));
           }
@@ -555,12 +569,14 @@ module _ {C Outcome : Type 0} (offers : C → Offer) (owner : OwnerOf Outcome) w
         number = p.number;
         call = call_of p.waiting;
         field = field_with p.waiting.retained;
+        refused = p.waiting.refused;
         is_awaited = ap (λ (o : Option Pending). option_map awaited_of o) k.waits;
         front = b.front;
         last = b.last;
         completes = b.completes;
         asks = b.asks;
         carries = b.field;
+        would = b.refused;
         once = due-at folded calls past p.connection moment octets written p.place.handled p.waiting b (sym k.stands.table.state ∙ k.answered);
       }
 

@@ -122,12 +122,14 @@ module _ {C Outcome : Type 0} (offers : C → Offer) (owner : OwnerOf Outcome) (
         number = p.number;
         call = call_of p.waiting;
         field = field_with p.waiting.retained;
+        refused = p.waiting.refused;
         is_awaited = ap (λ (o : Option Pending). option_map awaited_of o) k.waits;
         front = b.front;
         last = b.last;
         completes = b.completes;
         asks = b.asks;
         carries = b.field;
+        would = b.refused;
         due = due-now calls past p.connection moment octets written p.place.handled p.waiting b (sym k.stands.table.state ∙ k.answered);
       }
 

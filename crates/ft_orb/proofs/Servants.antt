@@ -32,7 +32,10 @@ use Rattle.ft_orb.specs.History.{Event, Gone, Line, Piece, Shut, Up, clock, comp
 use Rattle.ft_orb.specs.Outputs.{Made, Writes, after, is_going, is_gone, table_says}
 use Rattle.ft_orb.specs.Pauses.{Paused}
 use Rattle.ft_orb.specs.Performing.{EndsBy, IsDoneTo, Performs, Resumed, TakesFront}
-use Rattle.ft_orb.specs.Requests.{Call, Wanted, terms_of}
+use Rattle.cdr_core.specs.Value.{Values}
+use Rattle.ft_log.specs.declared.system_exception.SystemName.{SystemName}
+use Rattle.ft_objects.specs.Interfaces.{AreArgumentsOf, Interface}
+use Rattle.ft_orb.specs.Requests.{AreAsked, Call, Wanted, terms_of}
 use Rattle.ft_orb.specs.Runs.{answers_by, offer_by, owner_by, run}
 use Rattle.ft_orb.specs.Standing.{IsFor, IsNew, IsSameBut, Shown, Stands, capacity_of, note_of, note_of_closing, share_of, table_of}
 use Rattle.ft_orb.specs.Table.{AreAlike}
@@ -42,6 +45,11 @@ use Rattle.ft_orb.proofs.Cutting.{line-here}
 use Rattle.ft_orb.proofs.Handing.{asked-same, err-not-done, part-left, refused-there, resumed-ends, resumed-memory, there-still}
 use Rattle.ft_orb.proofs.Images.{gave-is, rests-shown, writes-shown}
 use Rattle.ft_orb.proofs.Joining.{count-more, cut-joined, cut-stands, needs-going, shortest-by, shortest-more, stands-joined, up-brings, writes-joined}
+
+-- nothing is asked that would be refused, so the arguments are of the types of the operation
+pub asked-plainly : (refused : Option SystemName) (i : Interface) (arguments : Values) → AreAsked false refused i arguments → AreArgumentsOf i arguments
+asked-plainly None i arguments h = h
+asked-plainly (Some name) i arguments h = absurd h
 
 -- a close ended, but for somebody who waits
 pub closing-noted : (r : Result Unit CloseError) → (r ≡ Err closing.Waits → ⊥) → (note : Note) × (note_of_closing r ≡ Some note)
@@ -92,7 +100,7 @@ module _ {S : Type 0} (meaning : Meaning S) (made : Made S) where
       (x.written, x.appended, writes-shown meaning made past e x.written note x.writes, rests-shown meaning made calls engine (after made.limits past e note) state x.rests)
 
   -- What waits waits still where the catalogue is another state of the servant.
-  pub asked-by : (calls : List Call) (old new : Engine S) (past : List Event) (moment : ℕ) (octets written : List ℕ) (w : Awaited) → new.offering.longest ≡ old.offering.longest → new.keeper ≡ old.keeper → pending_in new ≡ pending_in old → new.links ≡ old.links → new.limits ≡ old.limits → new.greatest ≡ old.greatest
+  pub asked-by : (calls : List Call) (old new : Engine S) (past : List Event) (moment : ℕ) (octets written : List ℕ) (w : Awaited) → (new.offering.longest ≡ old.offering.longest) × (new.offering.first ≡ old.offering.first) → new.keeper ≡ old.keeper → pending_in new ≡ pending_in old → new.links ≡ old.links → new.limits ≡ old.limits → new.greatest ≡ old.greatest
       → Asks (offer_by meaning) (owner_by meaning made) calls old past moment octets written w → Asks (offer_by meaning) (owner_by meaning made) calls new past moment octets written w
   asked-by calls old new past moment octets written w free keeper pending links limits greatest x =
       let shown : as_server new calls ≡ as_server old calls = λ i. record { servant = calls; clock = (keeper i).clock; limits = limits i; greatest = greatest i; links = (links i).entries; log = (keeper i).log } in
@@ -103,6 +111,7 @@ module _ {S : Type 0} (meaning : Meaning S) (made : Made S) where
         completes = x.completes;
         asks = x.asks;
         field = x.field;
+        refused = x.refused;
         fit = x.fit;
         question = x.question;
         content = x.content;
@@ -114,7 +123,7 @@ module _ {S : Type 0} (meaning : Meaning S) (made : Made S) where
         is = x.is;
         asker = x.asker;
         keeps = record {
-          offer_is = ap (λ (o : Option ℕ). terms_of o (offer_by meaning made.opening)) free ∙ x.keeps.offer_is;
+          offer_is = (λ i. record { interface = (offer_by meaning made.opening).interface; knows = (offer_by meaning made.opening).knows; longest = free.0 i; first = free.1 i }) ∙ x.keeps.offer_is;
           waits = pending ∙ x.keeps.waits;
           server = x.keeps.server;
           answered = x.keeps.answered;

@@ -1,6 +1,7 @@
 -- One arrival, under what is served when it arrives.
 use Rattle.std.proofs.Common.{◌≡◌, ℕ, ◌<◌, Bool, true, false, cond, nat_lt, List, [], ◌∷◌, ◌++◌, length, Option, Some, None, Result, Ok, Err, refl, sym, ap, subst, ◌∙◌}
-use Rattle.giop_link.specs.Hearing.{Incoming, asks, cancels, locates}
+use Rattle.giop_core.specs.Keys.{key_of_addressed}
+use Rattle.giop_link.specs.Hearing.{Incoming, Question, asks, cancels, locates}
 use Rattle.ft_log.specs.Holding.{Holding}
 use Rattle.ft_log.specs.Keys.{RequestKey}
 use Rattle.ft_log.specs.Kept.{KeptOutcome, kept_for, keys_of, unexpired}
@@ -13,7 +14,7 @@ use Rattle.ft_orb.specs.Decisions.{counted_with, decision_by, decision_for, deci
 use Rattle.ft_orb.specs.ExactlyOnce.{Absent, Arrival, Bad, Field, Present, Rules}
 use Rattle.ft_orb.specs.Owners.{Voice, answered_so_far, owner_rules}
 use Rattle.ft_orb.specs.Private.{StepsOne, arrivals_at}
-use Rattle.ft_orb.specs.Requests.{Call, Origin, Terms, Wanted, asked_at, asked_of, arrival_at, asked_within, call_within, field_in, is_named_within, is_within, locating, origin_of}
+use Rattle.ft_orb.specs.Requests.{Call, Origin, Terms, Wanted, asked_at, asked_of, arrival_at, asked_within, asking, call_first, call_for, call_keyed, call_within, field_in, field_of, first_with, is_named_within, is_within, locating, origin_of, raw_call, refusal_at, refusal_first}
 use Rattle.ft_orb.specs.Table.{Table, forgotten, keyed_step, performing_step, step_by_field, table_step}
 use Rattle.ft_orb.specs.Tellings.{held_told, octets_if, rendering, told_at}
 use Rattle.ft_orb.specs.Waits.{Begins, BeginsAll, Joins, Spells, Waits}
@@ -52,7 +53,10 @@ module _ {Outcome : Type 0} (ask other : Wanted → Result Call SystemName) (ans
 
 -- what is asked for and said under what was served when it arrived
 asked-served : (terms : ℕ → Terms) (served : Terms) (w : Wanted) → terms (origin_of w).changes ≡ served → asked_at terms w ≡ asked_at (λ n. served) w
-asked-served terms served w is = ap (λ (t : Terms). asked_within t.longest t.interface w) is
+asked-served terms served w is = ap (λ (t : Terms). asked_within t.first t.longest t.interface w) is
+
+would-served : (terms : ℕ → Terms) (served : Terms) (w : Wanted) → terms (origin_of w).changes ≡ served → refusal_at terms w ≡ refusal_at (λ n. served) w
+would-served terms served w is = ap (λ (t : Terms). refusal_first (first_with t.first (field_in w)) (asked_of t.interface w)) is
 
 module _ (terms : ℕ → Terms) (served : Terms) (voice : Voice) (capacity share now : ℕ) where
   abbrev Ours : Rules (List Call) Wanted Call Holding
@@ -96,8 +100,9 @@ module _ (terms : ℕ → Terms) (served : Terms) (voice : Voice) (capacity shar
     q = h.q;
     content = h.content;
     field = h.field;
-    spells = subst (λ (t : Terms). Spells t.interface h.q w) (sym (origin-served a.content h.c is (ap origin_of h.content))) h.spells;
+    spells = subst (λ (t : Terms). Spells (first_with t.first a.field) t.interface h.q w) (sym (origin-served a.content h.c is (ap origin_of h.content))) h.spells;
     asks = asked-served terms served a.content is ∙ h.asks;
+    refused = h.refused ∙ sym (would-served terms served a.content is);
     still = h.still;
     steps = step-served (answered_so_far calls old) a is ∙ h.steps;
   }
@@ -142,13 +147,35 @@ module _ (terms : ℕ → Terms) (served : Terms) (capacity share now : ℕ) whe
   tallied-served c (Some (locates version id to)) entries b old new is h = tallied-one entries (record { field = Absent; clock = now; content = locating c version id to }) b old new is h
   tallied-served c (Some (cancels id)) entries b old new is h = h
 
--- a request asks for its call where the id of its client is within the bound
-pub asked-in : (longest : Option ℕ) (interface : List ℕ → List ℕ → Interface) (w : Wanted) (call : Call) → is_within longest (field_in w) ≡ true → asked_of interface w ≡ Ok call → asked_within longest interface w ≡ Ok call
-asked-in None interface w call within is = is
-asked-in (Some longest) interface w call within is = ap (λ (b : Bool). call_within b (asked_of interface w)) within ∙ is
+-- what is asked by a request without a key, whatever the bound is
+pub asked-free : (first : Bool) (longest : Option ℕ) (interface : List ℕ → List ℕ → Interface) (c : Origin) (q : Question) → field_of q.contexts ≡ Absent → asked_within first longest interface (asking c q) ≡ asked_of interface (asking c q)
+asked-free false None interface c q has = refl
+asked-free false (Some longest) interface c q has = ap (λ (f : Field). call_within (is_within (Some longest) f) (asked_of interface (asking c q))) has
+asked-free true longest interface c q has = ap (λ (f : Field). call_within (is_within longest f) (call_first (first_with true f) (raw_call q) (asked_of interface (asking c q)))) has ∙ free longest
+  where
+    free : (longest : Option ℕ) → call_within (is_within longest Absent) (asked_of interface (asking c q)) ≡ asked_of interface (asking c q)
+    free None = refl
+    free (Some longest) = refl
 
--- .. and is refused where it is beyond that
-pub asked-by-key : (longest : Option ℕ) (interface : List ℕ → List ℕ → Interface) (w : Wanted) (key : RequestKey) (e : ℕ) → field_in w ≡ Present key e
-    → asked_within longest interface w ≡ call_within (is_named_within longest key.client_id) (asked_of interface w)
-asked-by-key None interface w key e is = refl
-asked-by-key (Some longest) interface w key e is = ap (λ (f : Field). call_within (is_within (Some longest) f) (asked_of interface w)) is
+-- .. by one with a key, whose client's id is within the bound or beyond it
+pub asked-by-key : (first : Bool) (longest : Option ℕ) (interface : List ℕ → List ℕ → Interface) (c : Origin) (q : Question) (key : RequestKey) (e : ℕ) → field_of q.contexts ≡ Present key e
+    → asked_within first longest interface (asking c q) ≡ call_within (is_named_within longest key.client_id) (call_first first (raw_call q) (call_for interface q (key_of_addressed q.target)))
+asked-by-key false None interface c q key e is = refl
+asked-by-key false (Some longest) interface c q key e is = ap (λ (f : Field). call_within (is_within (Some longest) f) (asked_of interface (asking c q))) is
+asked-by-key true longest interface c q key e is = ap (λ (f : Field). call_within (is_within longest f) (call_first (first_with true f) (raw_call q) (asked_of interface (asking c q)))) is ∙ named longest
+  where
+    named : (longest : Option ℕ) → call_within (is_within longest (Present key e)) (call_first true (raw_call q) (asked_of interface (asking c q))) ≡ call_within (is_named_within longest key.client_id) (call_first true (raw_call q) (asked_of interface (asking c q)))
+    named None = refl
+    named (Some longest) = refl
+
+-- .. where it is within it: the call, or what refuses it
+pub asked-in : (first : Bool) (longest : Option ℕ) (interface : List ℕ → List ℕ → Interface) (c : Origin) (q : Question) (key : RequestKey) (e : ℕ) (r : Result Call SystemName) → field_of q.contexts ≡ Present key e → is_named_within longest key.client_id ≡ true
+    → call_first first (raw_call q) (call_for interface q (key_of_addressed q.target)) ≡ r → asked_within first longest interface (asking c q) ≡ r
+asked-in first longest interface c q key e r has within is =
+    asked-by-key first longest interface c q key e has ∙ ap (λ (b : Bool). call_within b (call_first first (raw_call q) (call_for interface q (key_of_addressed q.target)))) within ∙ is
+
+-- .. and where it is beyond it
+pub asked-beyond : (first : Bool) (longest : Option ℕ) (interface : List ℕ → List ℕ → Interface) (c : Origin) (q : Question) (key : RequestKey) (e : ℕ) → field_of q.contexts ≡ Present key e → is_named_within longest key.client_id ≡ false
+    → asked_within first longest interface (asking c q) ≡ Err BadContext
+asked-beyond first longest interface c q key e has beyond =
+    asked-by-key first longest interface c q key e has ∙ ap (λ (b : Bool). call_within b (call_first first (raw_call q) (call_for interface q (key_of_addressed q.target)))) beyond

@@ -58,6 +58,7 @@ module _ {C : Type 0} (offers : C → Offer) (s : Settings) (held : ℕ → Hold
           completes = x.completes;
           asks = x.asks;
           field = x.field;
+          refused = x.refused;
           fit = x.fit;
           question = x.question;
           content = x.content;

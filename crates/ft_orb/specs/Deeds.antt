@@ -18,7 +18,7 @@ use Rattle.ft_orb.specs.Outputs.{Noted, WritesBy, after, output_cut}
 use Rattle.ft_orb.specs.Owners.{owned_law, owned_now, owned_rules, owned_says, owned_table}
 use Rattle.ft_orb.specs.Parked.{is_wished, on_going}
 use Rattle.ft_orb.specs.Parking.{Settings, by_number, goes_on, numbering, put_at, still, unless_placed, waiter_of, own_of}
-use Rattle.ft_orb.specs.Requests.{Call, Wanted, asked_at, asking}
+use Rattle.ft_orb.specs.Requests.{Call, Wanted, asked_at, asking, refusal_at}
 use Rattle.ft_orb.specs.Table.{table_after, table_step}
 use Rattle.ft_orb.specs.Tellings.{Later, nothing_yet, reply_by}
 use Rattle.ft_orb.specs.Withdrawing.{number_answers}
@@ -245,6 +245,7 @@ module _ (s : Settings) where
     pub content : last.content ≡ asking (origin g.past p.connection) question
     pub asks : asked_at s.terms last.content ≡ Ok w.call
     pub field : last.field ≡ w.field
+    pub refused : w.refused ≡ refusal_at s.terms last.content
     pub out : (late : Later) → written ≡ output_cut s.limits (numbering s late g.held).tell (owned_says (numbering s late g.held)) g.past (part_of p) (length front)
     pub before : (table_after (owned_rules (by_number s g.held)) (owned_table (by_number s g.held) g.past) front).state ≡ g.calls
     pub acts : (table_step (owned_rules (by_number s g.held)) (table_after (owned_rules (by_number s g.held)) (owned_table (by_number s g.held) g.past) front) last).0.state ≡ g.calls ++ w.call ∷ []

@@ -191,6 +191,8 @@ pub record IsAnsweredLate (s : Settings) (held : ℕ → Holding) (ds : List Dee
   pub told : (n : ℕ) → IsLeftOf (goes_on s.limits (after_deeds s (opening held) ds).past) (flat_map (came_to n) ds) (flat_map (told_of n) ds ++ (after_deeds s (opening held) ds).waiting n)
   pub theirs : (xs ms ys : List Deed) (i j n : ℕ) (outcome : Performed) (told : List Told) → ds ≡ xs ++ (ms ++ Settled j n outcome told ∷ ys)
       → i < length (after_deeds s (opening held) xs).calls → (after_deeds s (opening held) xs).held i ≡ parked n → list_any (settles n) ms ≡ false → i ≡ j
+  pub theirs_unkept : (xs ms ys : List Deed) (i j n : ℕ) (outcome : Performed) (told : List Told) → ds ≡ xs ++ (ms ++ SettledUnkept j n outcome told ∷ ys)
+      → i < length (after_deeds s (opening held) xs).calls → (after_deeds s (opening held) xs).held i ≡ parked n → list_any (settles n) ms ≡ false → i ≡ j
 
 -- every run from a new engine on is so
 abbrev pub RunsAreAnsweredLate : Settings → Type 0

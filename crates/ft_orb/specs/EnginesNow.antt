@@ -5,13 +5,14 @@ use Rattle.ft_orb.specs.declared.engine.Fed.TheVariants as fed
 use Rattle.ft_orb.specs.declared.error.ServeError.{ServeError}
 use Rattle.ft_orb.specs.declared.events.Note.{Note}
 use Rattle.ft_orb.specs.declared.events.Note.TheVariants.{Done}
+use Rattle.ft_log.specs.declared.system_exception.SystemName.{SystemName}
 use Rattle.ft_orb.specs.Engines.{Awaited}
 use Rattle.ft_orb.specs.ExactlyOnce.{Arrival, Field, state_after}
 use Rattle.ft_orb.specs.History.{Event, Piece, arrivals, completed}
 use Rattle.ft_orb.specs.Now.{acts_now, performed_now}
 use Rattle.ft_orb.specs.Outputs.{WritesBy, after, output_cut}
 use Rattle.ft_orb.specs.Owners.{Owner, OwnerOf, owned_now, owned_rules, owning}
-use Rattle.ft_orb.specs.Requests.{Call, Wanted, asked_at}
+use Rattle.ft_orb.specs.Requests.{Call, Wanted, asked_at, refusal_at}
 use Rattle.ft_orb.specs.Standing.{note_of}
 
 module _ {Outcome : Type 0} (owner : OwnerOf Outcome) where
@@ -40,12 +41,14 @@ module _ {Outcome : Type 0} (owner : OwnerOf Outcome) where
     pub number : ℕ
     pub call : Call
     pub field : Field
-    pub is_awaited : waits ≡ Some (record { number = number; connection = c; call = call; field = field })
+    pub refused : Option SystemName
+    pub is_awaited : waits ≡ Some (record { number = number; connection = c; call = call; field = field; refused = refused })
     pub front : List (Arrival Wanted)
     pub last : Arrival Wanted
     pub completes : completed owner.limits past (Piece c moment octets) ≡ front ++ last ∷ []
     pub asks : asked_at owner.terms last.content ≡ Ok call
     pub carries : last.field ≡ field
+    pub would : refused ≡ refusal_at owner.terms last.content
     pub due : IsDueNowOf calls past (Piece c moment octets) front last written
 
   abbrev pub FeedsNowOf : List Call → List Event → (c moment : ℕ) → List ℕ → Result Fed ServeError → Option Awaited → List ℕ → List ℕ → Type 0

@@ -168,7 +168,7 @@ not_now name minor = system name minor No
 
 -- what is parked, once nothing is kept for it any more
 abbrev pub keyless : Awaited → Awaited
-keyless w = record { number = w.number; connection = w.connection; call = w.call; field = Absent }
+keyless w = record { number = w.number; connection = w.connection; call = w.call; field = Absent; refused = w.refused }
 
 -- the key under which an outcome is kept, if it is
 abbrev pub key_kept : Option Retained → Option RequestKey

@@ -1,5 +1,5 @@
 -- Words of private functions: a piece that is fed to an engine whose servant performs. No public contract cites them.
-use Rattle.std.specs.Prelude.{◌≡◌, ◌⊎◌, ℕ, ◌<◌, List, ◌++◌, length, take, Option, Some, None, Result, Ok, Err}
+use Rattle.std.specs.Prelude.{◌≡◌, ◌⊎◌, ℕ, ◌<◌, false, List, ◌++◌, length, take, Option, Some, None, Result, Ok, Err}
 use Rattle.ft_objects.specs.Servants.{Meaning}
 use Rattle.ft_orb.specs.declared.engine.Engine.{Engine}
 use Rattle.ft_orb.specs.declared.error.ServeError.{ServeError}
@@ -13,6 +13,10 @@ use Rattle.ft_orb.specs.Requests.{Call}
 use Rattle.ft_orb.specs.Runs.{offer_by, owner_by, run}
 use Rattle.ft_orb.specs.Standing.{Shown, Stands, note_of}
 use Rattle.ft_orb.specs.Visits.{IsShortest, count_to}
+
+-- no id of a client is too long, and nothing is asked that would be refused
+abbrev pub IsFree : {S : Type 0} → Engine S → Type 0
+IsFree e = (e.offering.longest ≡ None) × (e.offering.first ≡ false)
 
 module _ {S : Type 0} (meaning : Meaning S) (made : Made S) (past : List Event) where
   -- an event was served to its end, and ended so: what was written for it, and what the server stands for now

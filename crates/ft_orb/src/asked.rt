@@ -6,7 +6,7 @@ ghost use Rattle.ft_orb.specs.Waits.{field_with};
 
 use crate::keeper::Retained;
 use cdr_core::Val;
-use ft_log::Key;
+use ft_log::{Key, SystemName};
 
 /// Who asks, and until when the request may be sent again (FT_REQUEST, FT 23.2.7).
 #[derive(Clone, Copy, Debug)]
@@ -29,6 +29,9 @@ pub struct Asked<'e> {
     pub object_key: &'e [u8],
     pub operation: &'e [u8],
     pub arguments: &'e [Val],
+    /// What would refuse it, where its owner is asked first (`Engine::ask_first`): its arguments are its body then, as those of a
+    /// raw operation.
+    pub refused: Option<SystemName>,
 }
 
 /// The key and the expiration of a request whose outcome is to be kept.

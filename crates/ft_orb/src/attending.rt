@@ -30,7 +30,7 @@ use std::alloc::Global;
 
 /// The outcome to hand in for the request that waits: the owner's, or INTERNAL where that one can't answer it.
 fn fitting<C: Catalogue + Drop>(engine: &Engine<C>, number: u64, outcome: Outcome) -> Outcome
-    requires fit { IsFit (C.offers engine.now.offering.catalogue) (waits_in engine.now) }
+    requires fit { IsFit engine.now.offering.first (C.offers engine.now.offering.catalogue) (waits_in engine.now) }
     requires open { IsOpen number (waits_in engine.now) }
     ensures can { CanAnswer (C.offers engine.now.offering.catalogue) (waits_in engine.now) number (performed_in result) }
     ensures handed { HandsIn (C.offers engine.now.offering.catalogue) (waits_in engine.now) (performed_in outcome) (performed_in result) }
@@ -48,7 +48,7 @@ fn attend_ask<C: Catalogue + Drop, O: Performer>(
     owner: &mut O,
     out: &mut Vec<u8>,
 ) -> Result<(), StreamEnd>
-    requires fit { IsFit (C.offers engine.old.offering.catalogue) (waits_in engine.old) }
+    requires fit { IsFit engine.old.offering.first (C.offers engine.old.offering.catalogue) (waits_in engine.old) }
     requires asking { IsSome (waits_in engine.old) }
     ensures idle { waits_in engine.new ≡ None }
     ensures parked { AreParked engine.old engine.new }

@@ -19,7 +19,8 @@ pub struct Counts {
     pub share_full: u64,
     pub located: u64,
     pub dropped: u64,
-    /// Requests that the owner answered at once.
+    /// Requests that the owner answered at once, also where it told an outcome unkept and that gave them up, as memory was
+    /// short.
     pub answered: u64,
     pub parked: u64,
     /// Parked requests whose outcome was handed in.

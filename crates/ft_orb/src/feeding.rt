@@ -28,8 +28,8 @@ impl<C: Catalogue + Drop> Engine<C> {
     /// neither it is taken whole, and MessageError is appended where its stream ends by a fault or a message that only a
     /// server sends.
     ///
-    /// A request whose key comes with one expiration is asked again only where it was given up or declined; who does so has to have
-    /// done nothing.
+    /// A request whose key comes with one expiration is asked again only where it was given up, declined, or told an outcome
+    /// unkept; who gives up or declines has to have done nothing.
     #[inline(always)]
     pub fn feed(
         &mut self,
@@ -60,7 +60,7 @@ impl<C: Catalogue + Drop> Engine<C> {
         // the connection ends where its stream does, for that reason, and no other ends
         ensures heard { (s : Settings) (held : ℕ → Holding) (calls : List Call) (past : List history.Event) (waiting : ℕ → List Waiter) → Stays C.offers s held calls self.old past waiting
             → IfOk result (λ fed. EndsHeard self.old self.new connection s.limits (history.line past connection) piece.now fed) }
-        ensures fit { IsFit (C.offers self.new.offering.catalogue) (waits_in self.new) }
+        ensures fit { IsFit self.new.offering.first (C.offers self.new.offering.catalogue) (waits_in self.new) }
         ensures parked { AreParked self.old self.new }
         ensures waiting { (q : ℕ) → others_under self.new connection q ≡ others_under self.old connection q }
         // no more wait for one outcome than may
@@ -111,7 +111,7 @@ impl<C: Catalogue + Drop> Engine<C> {
         // the connection ends where its stream does, for that reason, and no other ends
         ensures heard { (s : Settings) (held : ℕ → Holding) (calls : List Call) (past : List history.Event) (waiting : ℕ → List Waiter) → Stays C.offers s held calls self.old past waiting
             → IfOk (fed_in result) (λ fed. EndsHeard self.old self.new connection s.limits (history.line past connection) (piece_in piece.now result) fed) }
-        ensures fit { IsFit (C.offers self.new.offering.catalogue) (waits_in self.new) }
+        ensures fit { IsFit self.new.offering.first (C.offers self.new.offering.catalogue) (waits_in self.new) }
         ensures parked { AreParked self.old self.new }
         ensures waiting { (q : ℕ) → others_under self.new connection q ≡ others_under self.old connection q }
         // no more wait for one outcome than may

@@ -43,6 +43,7 @@ impl<C: Catalogue + Drop> Engine<C> {
             object_key: &waiting.object_key,
             operation: &waiting.operation,
             arguments: &waiting.arguments,
+            refused: waiting.refused,
         })
     }
 

@@ -15,11 +15,13 @@ use crate::error::ChangeError;
 use ft_log::Key;
 use ft_objects::Catalogue;
 
-/// What is on offer, and how many octets a client's id may have, where that is bounded.
+/// What is on offer; how many octets a client's id may have, where that is bounded; and whether the owner is asked before a
+/// request with a key is refused.
 #[derive(Drop)]
 pub(crate) struct Offering<C: Drop> {
     pub(crate) catalogue: C,
     pub(crate) longest: Option<usize>,
+    pub(crate) first: bool,
 }
 
 impl<C: Drop> Offering<C> {
@@ -59,6 +61,7 @@ impl<C: Catalogue + Drop> Engine<C> {
         ensures table { (owner : Owner) (calls : List Call) (past : List history.Event) → Rests C.offers owner calls self.old past
             → terms_by C.offers self.new.offering ≡ terms_by C.offers self.old.offering → Rests C.offers owner calls self.new (history.Changed ∷ past) }
         ensures bound { self.new.offering.longest ≡ self.old.offering.longest }
+        ensures first { self.new.offering.first ≡ self.old.offering.first }
         ensures idle { waits_in self.new ≡ None }
         ensures asks { asks_in self.new ≡ asks_in self.old }
         ensures parked { AreParked self.old self.new }
@@ -97,6 +100,7 @@ impl<C: Catalogue + Drop> Engine<C> {
         ensures table { OnOk result ((owner : Owner) (calls : List Call) (past : List history.Event) → Rests C.offers owner calls self.old past
             → terms_by C.offers self.new.offering ≡ terms_by C.offers self.old.offering → Rests C.offers owner calls self.new (history.Changed ∷ past)) }
         ensures bound { self.new.offering.longest ≡ self.old.offering.longest }
+        ensures first { self.new.offering.first ≡ self.old.offering.first }
         ensures idle { waits_in self.new ≡ None }
         ensures asks { asks_in self.new ≡ asks_in self.old }
         ensures parked { AreParked self.old self.new }
@@ -115,7 +119,7 @@ impl<C: Catalogue + Drop> Engine<C> {
     /// bound.
     pub fn bound_client_ids(&mut self, octets: usize)
         requires idle { waits_in self.old ≡ None }
-        ensures bound { self.new.offering ≡ record { catalogue = self.old.offering.catalogue; longest = Some octets } }
+        ensures bound { self.new.offering ≡ record { catalogue = self.old.offering.catalogue; longest = Some octets; first = self.old.offering.first } }
         ensures late { (s : Settings) (held : ℕ → Holding) (calls : List Call) (past : List history.Event) (waiting : ℕ → List Waiter) → Stays C.offers s held calls self.old past waiting
             → s.terms (suc (changes past)) ≡ terms_by C.offers self.new.offering → Stays C.offers s held calls self.new (history.Changed ∷ past) waiting }
         // .. and it is a deed, which a run of deeds may have
@@ -128,5 +132,31 @@ impl<C: Catalogue + Drop> Engine<C> {
         ensures ended { AreEndings self.old self.new }
     {
         self.offering.longest = Some(octets);
+    }
+
+    /// Has the owner be asked, or no longer, of each request with FT_REQUEST that would be refused for its target, its operation
+    /// or its arguments: one that is not expired, under whose key nothing is kept and no request is parked, whose client's id is
+    /// within the bound, and for whose outcome there is room. It is asked with what would refuse it (`Asked::refused`), as a raw
+    /// call: its body as it came, under the object key that its target names, or none. So an owner whose store outlives the
+    /// engine finds what it performed while the object was on offer, or its operation had other types; and of what it has not,
+    /// it says the refusal, by `decline` and `withdraw` of that name and minor code 0. An engine is made without this.
+    pub fn ask_first(&mut self, is_first: bool)
+        requires idle { waits_in self.old ≡ None }
+        ensures first { self.new.offering ≡ record { catalogue = self.old.offering.catalogue; longest = self.old.offering.longest; first = is_first } }
+        ensures late { (s : Settings) (held : ℕ → Holding) (calls : List Call) (past : List history.Event) (waiting : ℕ → List Waiter) → Stays C.offers s held calls self.old past waiting
+            → s.terms (suc (changes past)) ≡ terms_by C.offers self.new.offering → Stays C.offers s held calls self.new (history.Changed ∷ past) waiting }
+        // .. and it is a deed, which a run of deeds may have
+        ensures deed { IsChange C.offers self.old self.new }
+        // where the same is served as before
+        ensures table { (owner : Owner) (calls : List Call) (past : List history.Event) → Rests C.offers owner calls self.old past
+            → terms_by C.offers self.new.offering ≡ terms_by C.offers self.old.offering → Rests C.offers owner calls self.new (history.Changed ∷ past) }
+        ensures idle { waits_in self.new ≡ None }
+        ensures asks { asks_in self.new ≡ asks_in self.old }
+        ensures parked { AreParked self.old self.new }
+        ensures waiting { (c q : ℕ) → others_under self.new c q ≡ others_under self.old c q }
+        ensures counts { counts_in self.new ≡ counts_in self.old }
+        ensures ended { AreEndings self.old self.new }
+    {
+        self.offering.first = is_first;
     }
 }

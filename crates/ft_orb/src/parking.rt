@@ -92,6 +92,7 @@ impl<C: Catalogue + Drop> Engine<C> {
             object_key: &pending.waiting.object_key,
             operation: &pending.waiting.operation,
             arguments: &pending.waiting.arguments,
+            refused: pending.waiting.refused,
         })
     }
 

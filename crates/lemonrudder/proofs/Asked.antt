@@ -100,7 +100,7 @@ carry P a b x y e f h = subst (λ z. P x z) (sym f) (subst (λ z. P z b) e h)
 -- what waits after a piece came on its connection
 pub asked-left : {C : Type 0} (k : Connections) (e : Engine C) (c size : ℕ) (f : Result Fed ServeError) → IsLeftAt c size f (waits_in e) → is_there k c ≡ true → is_asked_there k e ≡ true
 asked-left k e c size (Ok fed.Whole) left there = asked-idle k e left
-asked-left k e c size (Ok (fed.Asks taken)) left there = asked-on k e c _ left.5 refl there
+asked-left k e c size (Ok (fed.Asks taken)) left there = asked-on k e c _ left.6 refl there
 asked-left k e c size (Ok (fed.Repeats taken)) left there = asked-idle k e left.2
 asked-left k e c size (Err y) left there = asked-idle k e left
 

@@ -4,7 +4,7 @@ use Rattle.std.specs.Fn.{CalledAtMut, Mut}
 use Rattle.lemonrudder.specs.declared.object.Object.{Object}
 use Rattle.lemonrudder.specs.declared.object.Object.TheVariants.{Assembler, Catalogue, Client, Reference, Server}
 use Rattle.lemonrudder.specs.declared.refusal.Refusal.{Refusal}
-use Rattle.lemonrudder.specs.declared.assembling.Assembling.{Assembling}
+use Rattle.lemonrudder.specs.Assembled.{Assembled}
 use Rattle.lemonrudder.specs.declared.calling.Calling.{Calling}
 use Rattle.lemonrudder.specs.declared.cataloguing.Cataloguing.{Cataloguing}
 use Rattle.lemonrudder.specs.declared.referring.Referring.{Referring}
@@ -62,15 +62,15 @@ by_client P (Some (Client s)) after answer given on same by = let (t, r, left, s
 by_client P (Some (Assembler s)) after answer given on same by = (same ∙ on.does.0, on.does.1)
 by_client P (Some (Reference s)) after answer given on same by = (same ∙ on.does.0, on.does.1)
 
-pub calls_assembler : {F : Type 0} {g : Mut F (MutBor Assembling × Unit {0}) (Result ℕ Refusal × (MutBor Assembling × Unit {0}))} {f f' : F} (before after : Option Object) (answer : ℤ) (s t : Assembling) (r : Result ℕ Refusal)
+pub calls_assembler : {F : Type 0} {g : Mut F (MutBor Assembled × Unit {0}) (Result ℕ Refusal × (MutBor Assembled × Unit {0}))} {f f' : F} (before after : Option Object) (answer : ℤ) (s t : Assembled) (r : Result ℕ Refusal)
     → before ≡ Some (Assembler s) → after ≡ Some (Assembler t) → answer ≡ number_in r → CalledAtMut g f s r f' t → Calls OnAssembler HasNoAssembler g f f' before after answer
 calls_assembler {g = g} {f = f} {f' = f'} before after answer s t r was is said called = record {
   does = subst (λ o. OnAssembler (λ s t r. CalledAtMut g f s r f' t) o after answer) (sym was) (t, r, is, said, called);
   idle = λ none. absurd (subst HasNoAssembler was none);
 }
 
-pub by_assembler : {F : Type 0} {g : Mut F (MutBor Assembling × Unit {0}) (Result ℕ Refusal × (MutBor Assembling × Unit {0}))} {f f' : F} (P : Assembling → Assembling → Result ℕ Refusal → Type 0) (before after : Option Object) (answer given : ℤ)
-    → Calls OnAssembler HasNoAssembler g f f' before after given → answer ≡ given → ((s t : Assembling) (r : Result ℕ Refusal) → CalledAtMut g f s r f' t → P s t r) → OnAssembler P before after answer
+pub by_assembler : {F : Type 0} {g : Mut F (MutBor Assembled × Unit {0}) (Result ℕ Refusal × (MutBor Assembled × Unit {0}))} {f f' : F} (P : Assembled → Assembled → Result ℕ Refusal → Type 0) (before after : Option Object) (answer given : ℤ)
+    → Calls OnAssembler HasNoAssembler g f f' before after given → answer ≡ given → ((s t : Assembled) (r : Result ℕ Refusal) → CalledAtMut g f s r f' t → P s t r) → OnAssembler P before after answer
 by_assembler P None after answer given on same by = (same ∙ on.does.0, on.does.1)
 by_assembler P (Some (Catalogue s)) after answer given on same by = (same ∙ on.does.0, on.does.1)
 by_assembler P (Some (Server s)) after answer given on same by = (same ∙ on.does.0, on.does.1)
@@ -95,8 +95,8 @@ by_reference P (Some (Assembler s)) after answer given on same by = (same ∙ on
 by_reference P (Some (Reference s)) after answer given on same by = let (t, r, left, said, did) = on.does in (t, r, left, same ∙ said, by s t r did)
 
 -- what holds where no assembler is called, and where one is, holds
-pub if_assembler : {F : Type 0} {g : Mut F (MutBor Assembling × Unit {0}) (Result ℕ Refusal × (MutBor Assembling × Unit {0}))} {f f' : F} (Q : Type 0) (before after : Option Object) (answer given : ℤ)
-    → Calls OnAssembler HasNoAssembler g f f' before after given → answer ≡ given → (f' ≡ f → Q) → ((s t : Assembling) (r : Result ℕ Refusal) → answer ≡ number_in r → CalledAtMut g f s r f' t → Q) → Q
+pub if_assembler : {F : Type 0} {g : Mut F (MutBor Assembled × Unit {0}) (Result ℕ Refusal × (MutBor Assembled × Unit {0}))} {f f' : F} (Q : Type 0) (before after : Option Object) (answer given : ℤ)
+    → Calls OnAssembler HasNoAssembler g f f' before after given → answer ≡ given → (f' ≡ f → Q) → ((s t : Assembled) (r : Result ℕ Refusal) → answer ≡ number_in r → CalledAtMut g f s r f' t → Q) → Q
 if_assembler Q None after answer given on same idle by = idle (on.idle tt)
 if_assembler Q (Some (Catalogue s)) after answer given on same idle by = idle (on.idle tt)
 if_assembler Q (Some (Server s)) after answer given on same idle by = idle (on.idle tt)

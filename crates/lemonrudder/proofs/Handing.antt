@@ -1,14 +1,19 @@
 -- What comes of an outcome: by what waits, by the octets that are read, and by the numbers that name its parts.
-use Rattle.std.proofs.Common.{◌≡◌, ◌==◌, ◌∙◌, ◌↔◌, ◌⊎◌, ◌<◌, if◌then◌else◌, Bool, true, false, ℕ, List, [], ◌∷◌, length, Option, Some, None, IsSome, IsTrue, Result, Ok, Err, Bor, Vec, Global, map, inl, inr, ap, refl, subst, sym, arith}
+use Rattle.std.proofs.Common.{◌≡◌, ◌==◌, ◌∙◌, ◌↔◌, ◌⊎◌, ◌+◌, ◌*◌, ◌/◌, ◌<◌, ◌≤◌, if◌then◌else◌, Bool, true, false, ℕ, List, [], ◌∷◌, ◌++◌, length, length-append, Option, Some, None, IsSome, IsTrue, Result, Ok, Err, Bor, Vec, Global, map, inl, inr, ap, refl, subst, sym, arith}
 use Rattle.std.specs.Result.{IfOk}
+use Rattle.std.proofs.lemmas.Bool.{cases_lt}
 use Rattle.cdr_core.specs.declared.order.Order.{Order}
 use Rattle.cdr_core.specs.declared.values.Val.{Val}
 use Rattle.cdr_core.specs.Form.{Forms}
 use Rattle.cdr_core.specs.Spelling.{SpellsMembers}
+use Rattle.cdr_core.specs.Value as value
 use Rattle.cdr_core.specs.Value.{Values}
 use Rattle.cdr_core.specs.View.{values_of}
-use Rattle.cdr_core.specs.Writing.{AreWritable}
+use Rattle.cdr_core.specs.Writing.{AreWritable, number_octets, octets_of, octets_of_all}
+use Rattle.cdr_core.proofs.Lengths.{number_length}
 use Rattle.giop_core.specs.Written.{exception_body}
+use Rattle.giop_core.proofs.OctetsBody.{body_length}
+use Rattle.ft_log.specs.declared.outcome.RawStatus.{RawStatus}
 use Rattle.ft_log.specs.declared.outcome.RawStatus.TheVariants.{UserException}
 use Rattle.ft_log.specs.Performed.{Performed, raw}
 use Rattle.ft_orb.specs.Engines.{Awaited, CanAnswer, IsOpen, waits_in}
@@ -20,10 +25,13 @@ use Rattle.lemonrudder.specs.declared.serving.questions.Found.TheVariants as fou
 use Rattle.std.proofs.Math.Bool.{Bool-set}
 use Rattle.lemonrudder.specs.Connected.{is_asked_there}
 use Rattle.ft_objects.specs.Families.{families_offer}
+use Rattle.ft_objects.specs.Catalogues.{Offer}
+use Rattle.ft_objects.specs.Replies.{body_limit}
+use Rattle.ft_orb.specs.declared.parked.Parked.{Parked}
 use Rattle.ft_orb.specs.Parking.{CanSettle, parked_at, parked_in}
 use Rattle.lemonrudder.specs.Beforehand.{ByNamed, OnReplyContexts, Says, TellsException, TellsIfCan}
 use Rattle.lemonrudder.specs.Naming.{or_range, order_named}
-use Rattle.lemonrudder.specs.Outcomes.{Answers, AreRead, AreValuesOf, ByName, CanBe, HandsIn, IsBody, Raises, exception_octets, outcome_read}
+use Rattle.lemonrudder.specs.Outcomes.{Answers, AreRead, AreValuesOf, ByName, CanBe, HandsIn, IsBody, MayBeRaised, Raises, exception_octets, outcome_read}
 use Rattle.giop_core.specs.Items.{item_at}
 use Rattle.lemonrudder.specs.declared.serving.replying.Said.{Said}
 use Rattle.lemonrudder.specs.RawCalls.{AreNoContexts, IsShortFor}
@@ -31,6 +39,7 @@ use Rattle.lemonrudder.specs.Replying.{AreLent, AreSaid, Contexts, IsSaid, IsWhy
 use Rattle.lemonrudder.specs.Serves.{ByFound, ByWaiting}
 use Rattle.lemonrudder.specs.Spelled.{AreThose, AreValues}
 use Rattle.lemonrudder.specs.Tickets.{named_by, ticket_of, waiting_by}
+use Rattle.lemonrudder.proofs.Reaching.{members_reach}
 
 -- a number names nothing
 pub unnamed : {A : Type 0} (x : Option A) (e : Refusal) (s : Serving) (r : Result ℕ Refusal) (Does : A → Type 0) → or_range x ≡ Err e → r ≡ Err e → ByName x s s r Does
@@ -85,20 +94,51 @@ pub read-some : (types : Option Forms) (order : Order) (octets : List ℕ) (ts :
 read-some types order octets ts r some read = subst (λ x. AreRead x order octets r) (sym some) read
 
 -- members were not read, so there is no body of an exception of them
-pub body-unread : (id : List ℕ) (types : Option Forms) (order : Order) (octets : List ℕ) (e : Refusal) → AreRead types order octets (Err e) → IsBody id types order octets (Err e)
-body-unread id None order octets e is = is
-body-unread id (Some types) order octets e (inl short) = inl short
-body-unread id (Some types) order octets e (inr (is, none)) = inr (is, λ vs are. none vs are.0)
+pub body-unread : (id : List ℕ) (types : Option Forms) (order : Order) (octets : List ℕ) (e : Refusal) → AreRead types order octets (Err e) → MayBeRaised id octets → IsBody id types order octets (Err e)
+body-unread id None order octets e is may = is
+body-unread id (Some types) order octets e (inl short) may = inl (short.0, short.1, may)
+body-unread id (Some types) order octets e (inr (is, none)) may = inr (is, λ vs are. absurd (none vs are.0))
 
 -- .. or they can't be written
 pub body-unwritable : (id : List ℕ) (types : Option Forms) (order : Order) (octets : List ℕ) (v : Vec Val Global) → AreRead types order octets (Ok v) → ¬ (AreWritable (exception_body id (values_of v.items))) → IsBody id types order octets (Err refusal.Outcome)
 body-unwritable id None order octets v is cannot = absurd is
-body-unwritable id (Some types) order octets v is cannot = inr (refl, λ vs are. cannot (subst (λ us. AreWritable (exception_body id us)) (sym (is.1 vs are.0)) are.1))
+body-unwritable id (Some types) order octets v is cannot = inr (refl, λ vs are. absurd (cannot (subst (λ us. AreWritable (exception_body id us)) (sym (is.1 vs are.0)) are.1)))
 
 -- .. or memory is short for it
-pub body-short : (id : List ℕ) (types : Option Forms) (order : Order) (octets : List ℕ) (v : Vec Val Global) → AreRead types order octets (Ok v) → IsBody id types order octets (Err refusal.Memory)
-body-short id None order octets v is = absurd is
-body-short id (Some types) order octets v is = inl (refl, (values_of v.items, is.0))
+pub body-short : (id : List ℕ) (types : Option Forms) (order : Order) (octets : List ℕ) (v : Vec Val Global) → AreRead types order octets (Ok v) → MayBeRaised id octets → IsBody id types order octets (Err refusal.Memory)
+body-short id None order octets v is may = absurd is
+body-short id (Some types) order octets v is may = inl (refl, (values_of v.items, is.0), may)
+
+-- what is longer than it may be
+body_long : (id : List ℕ) (types : Forms) (order : Order) (octets : List ℕ) (vs : Values) → ¬ (MayBeRaised id octets) → SpellsMembers types order vs 0 octets → body_limit < length (exception_octets order id vs)
+body_long id types order octets vs far spelled =
+    let least = (length id + 5) / 8 * 8 + length octets in
+    let name : List ℕ = number_octets order 4 0 (length id + 1) in
+    let front : List ℕ = octets_of order (value.string id) 0 in
+    let long : length front ≡ 5 + length id = omega (arith, number_length order 4 0 (length id + 1), length-append (name ++ id) (0 ∷ []), length-append name id) in
+    let begins : 0 + 8 * ((length id + 5) / 8) ≤ 0 + length front = omega (arith, long) in
+    let ends = members_reach types order ((length id + 5) / 8) vs 0 octets spelled (0 + length front) begins in
+    elim (cases_lt body_limit least) [
+      | inl over ↦ omega (arith, over, ends, length-append front (octets_of_all order vs (0 + length front)))
+      | inr within ↦ absurd (far within)
+    ]
+
+pub body-long : (id : List ℕ) (types : Option Forms) (order : Order) (octets : List ℕ) → ¬ (MayBeRaised id octets) → IsBody id types order octets (Err refusal.Outcome)
+body-long id None order octets far = refl
+body-long id (Some types) order octets far = inr (refl, λ vs are. body_long id types order octets vs far are.0)
+
+-- what is that long is no outcome
+long_answer : (offer : Offer) (o : Option Awaited) (n : ℕ) (status : RawStatus) (order : Order) (octets : List ℕ) → CanAnswer offer o n (raw status order octets) → length octets ≤ body_limit
+long_answer offer None n status order octets can = absurd can
+long_answer offer (Some w) n status order octets can = omega (arith, can.1.1, body_length order octets 24)
+
+long_settled : (offer : Offer) (o : Option Parked) (status : RawStatus) (order : Order) (octets : List ℕ) → CanSettle offer o (raw status order octets) → length octets ≤ body_limit
+long_settled offer None status order octets can = absurd can
+long_settled offer (Some p) status order octets can = omega (arith, can.1.1, body_length order octets 24)
+
+too_long : (f : Found) (status : RawStatus) (order : Order) (octets : List ℕ) (s : Serving) → body_limit < length octets → CanBe f (raw status order octets) s → ⊥
+too_long (found.Waits n c) status order octets s long can = let most = long_answer (families_offer s.engine.offering.catalogue) (waits_in s.engine) n status order octets can in omega (arith, most, long)
+too_long (found.Parked n) status order octets s long can = let most = long_settled (families_offer s.engine.offering.catalogue) (parked_at s.engine n) status order octets can in omega (arith, most, long)
 
 pub body-is : (id : List ℕ) (types : Option Forms) (order : Order) (octets : List ℕ) (v : Vec Val Global) (body : Vec ℕ Global) → AreRead types order octets (Ok v) → AreWritable (exception_body id (values_of v.items)) → body.items ≡ exception_octets order id (values_of v.items)
     → IsBody id types order octets (Ok body)
@@ -108,8 +148,10 @@ body-is id (Some types) order octets v body is can written = (values_of v.items,
 -- there is no body of an exception
 pub raises-none : (ticket : ℕ) (f : Found) (id : List ℕ) (types : Option Forms) (order : Order) (octets : List ℕ) (s : Serving) (e : Refusal) → IsBody id types order octets (Err e) → Raises ticket f id types order octets s s (Err e)
 raises-none ticket f id None order octets s e is = (ap Err is, refl)
-raises-none ticket f id (Some types) order octets s e (inl (short, are)) = let said : ◌≡◌ {A = Result ℕ Refusal} (Err e) (Err refusal.Memory) = ap Err short in (λ vs members. inl (said, refl), λ none. inl (are, (said, refl)))
-raises-none ticket f id (Some types) order octets s e (inr (is, none)) = let said : ◌≡◌ {A = Result ℕ Refusal} (Err e) (Err refusal.Outcome) = ap Err is in (λ vs are. absurd (none vs are), λ _. inr (said, refl))
+raises-none ticket f id (Some types) order octets s e (inl (short, are, may)) = let said : ◌≡◌ {A = Result ℕ Refusal} (Err e) (Err refusal.Memory) = ap Err short in (λ vs members. inl (may, (said, refl)), λ none. inl (are, may, (said, refl)))
+raises-none ticket f id (Some types) order octets s e (inr (is, long)) =
+    let said : ◌≡◌ {A = Result ℕ Refusal} (Err e) (Err refusal.Outcome) = ap Err is in
+    (λ vs are. inr ((λ cannot. (said, refl)), λ can. absurd (too_long f UserException order (exception_octets order id vs) s (long vs are) can)), λ _. inr (said, refl))
 
 -- there is one, which was handed in
 pub raises-it : (ticket : ℕ) (f : Found) (id : List ℕ) (types : Option Forms) (order : Order) (octets : List ℕ) (s t : Serving) (r : Result ℕ Refusal) (body : Vec ℕ Global) → IsBody id types order octets (Ok body) → HandsIn ticket f 0 (raw UserException order body.items) s t r
@@ -140,8 +182,9 @@ short-said said (Err e) lent never = short-err said e lent
 -- there is no body of an exception to be told
 pub tells-none : (f : Found) (id : List ℕ) (types : Option Forms) (order : Order) (octets room : List ℕ) (s : Serving) (e : Refusal) → IsBody id types order octets (Err e) → TellsException f id types order octets room room s (Err e)
 tells-none f id None order octets room s e is = (ap Err is, refl)
-tells-none f id (Some types) order octets room s e (inl (short, are)) = inl (are, (ap Err short, refl))
-tells-none f id (Some types) order octets room s e (inr (is, none)) = inr ((λ vs are. absurd (none vs are)), λ _. (ap Err is, refl))
+tells-none f id (Some types) order octets room s e (inl (short, are, may)) = inl (are, may, (ap Err short, refl))
+tells-none f id (Some types) order octets room s e (inr (is, long)) =
+    inr ((λ vs are. ((λ can. absurd (too_long f UserException order (exception_octets order id vs) s (long vs are) can)), λ cannot. (ap Err is, refl))), λ _. (ap Err is, refl))
 
 -- .. or there is one
 pub tells-it : (f : Found) (id : List ℕ) (types : Option Forms) (order : Order) (octets room new : List ℕ) (s : Serving) (r : Result ℕ Refusal) (body : Vec ℕ Global) → IsBody id types order octets (Ok body) → TellsIfCan f order body.items room new s r

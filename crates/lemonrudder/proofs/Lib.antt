@@ -1,4 +1,5 @@
 mod Asked
+mod Addressing
 mod Adjusting
 mod Assemblers
 mod Bounded
@@ -22,6 +23,7 @@ mod Lending
 mod Machine
 mod Noting
 mod Offered
+mod Opening
 mod Owing
 mod OwingLate
 mod Pairs
@@ -29,11 +31,13 @@ mod Parking
 mod Putting
 mod Raising
 mod RawCalls
+mod Reaching
 mod Reading
 mod References
 mod Refusing
 mod Resuming
 mod Servers
+mod Sized
 mod Telling
 mod Tellings
 mod Values

@@ -22,7 +22,7 @@ module _ {C Outcome : Type 0} (offers : C → Offer) (owner : OwnerOf Outcome) (
   ends-of-owed e note engine x = record { written = x.written; appended = grows n before x.written out few x.appended; writes = x.writes; rests = x.rests }
 
   stops-of-owed : (c moment : ℕ) (piece : List ℕ) (taken : ℕ) (engine : Engine C) → StopsOf offers owner calls past c moment piece taken engine before out → StopsOf offers owner calls past c moment piece taken engine (drop n before) (drop n out)
-  stops-of-owed c moment piece taken engine x = record { written = x.written; appended = grows n before x.written out few x.appended; number = x.number; call = x.call; field = x.field; asks = x.asks; short = x.short }
+  stops-of-owed c moment piece taken engine x = record { written = x.written; appended = grows n before x.written out few x.appended; number = x.number; call = x.call; field = x.field; refused = x.refused; asks = x.asks; short = x.short }
 
   resumes-of-owed : (c moment : ℕ) (octets written : List ℕ) (note : Note) (engine : Engine C) → ResumesOf offers owner calls past c moment octets written note engine before out → ResumesOf offers owner calls past c moment octets written note engine (drop n before) (drop n out)
   resumes-of-owed c moment octets written note engine x = record { more = x.more; appended = grows n before x.more out few x.appended; writes = x.writes; rests = x.rests }

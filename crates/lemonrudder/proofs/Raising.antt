@@ -5,7 +5,8 @@ use Rattle.std.specs.List.{AllByRecursion}
 use Rattle.cdr_core.specs.Fitting.{AreValid}
 use Rattle.cdr_core.specs.Form.{Forms}
 use Rattle.ft_objects.specs.Interfaces.{AreValidTypes, Interface, IsValidInterface, Types, checked_operation, no_object, no_operation, operation, raw_operation}
-use Rattle.lemonrudder.specs.Outcomes.{member_types, members_in, members_of, result_types, types_in}
+use Rattle.ft_log.specs.declared.system_exception.SystemName.{SystemName}
+use Rattle.lemonrudder.specs.Outcomes.{asked_as, member_types, members_in, members_of, result_types, types_in}
 
 chosen : (b : Bool) (x ts : Forms) (o : Option Forms) → AreValid x → (o ≡ Some ts → AreValid ts) → (if b then Some x else o) ≡ Some ts → AreValid ts
 chosen true x ts o valid later is = let same : x ≡ ts = cc in subst AreValid same valid
@@ -22,6 +23,11 @@ typed-valid no_operation t is valid = absurd (none-some t is)
 typed-valid (operation u) t is valid = let same : u ≡ t = cc in subst AreValidTypes same valid
 typed-valid (checked_operation u) t is valid = let same : u ≡ t = cc in subst AreValidTypes same valid
 typed-valid raw_operation t is valid = absurd (none-some t is)
+
+-- what would be refused is raw, which is valid
+pub asked-valid : (o : Option SystemName) (i : Interface) → IsValidInterface i → IsValidInterface (asked_as o i)
+asked-valid None i valid = valid
+asked-valid (Some name) i valid = tt
 
 pub none-typed : (i : Interface) → types_in i ≡ None → result_types i ≡ None
 none-typed i none = ap (option_map (λ (t : Types). t.results)) none

@@ -1,5 +1,5 @@
 -- Raw calls that a client makes, takes up again or by which it redirects one, in the words of what it stands for.
-use Rattle.std.proofs.Common.{◌≡◌, ◌≢◌, ◌∙◌, ◌⊎◌, inl, inr, ℕ, suc, ℤ, true, false, List, [], ◌++◌, Option, Some, FitsSigned, Result, Ok, Err, Vec, Global, refl, ap, subst, sym}
+use Rattle.std.proofs.Common.{◌≡◌, ◌∙◌, ◌⊎◌, inl, inr, ℕ, suc, ℤ, true, false, List, ◌++◌, Option, Some, FitsSigned, Result, Ok, Err, Vec, Global, refl, ap, subst, sym}
 use Rattle.std.specs.Int.{w32}
 use Rattle.giop_core.specs.declared.header.Version.{Version}
 use Rattle.giop_core.specs.declared.request.ReplyWish.{ReplyWish}
@@ -17,7 +17,6 @@ use Rattle.ft_client.specs.Standing.{FtStands, down}
 use Rattle.lemonrudder.specs.declared.calling.Calling.{Calling}
 use Rattle.lemonrudder.specs.declared.calling.raw.RawManner.{RawManner}
 use Rattle.lemonrudder.specs.declared.refusal.Refusal.{Refusal}
-use Rattle.lemonrudder.specs.declared.refusal.Refusal.TheVariants as refusal
 use Rattle.lemonrudder.specs.Calls.{Stays}
 use Rattle.lemonrudder.specs.Naming.{call_numbered, wish_named}
 use Rattle.lemonrudder.specs.RawCalls.{AreContexts, AreNoContexts, IsRawAsked, IsRawManner, IsShortFor, IsWhyUnaskedRaw, OnCallRaw, OnRecallRaw, OnRedirectRaw, RawQuestion, raw_asked, raw_in}

@@ -1,5 +1,5 @@
 -- Who waits is told, one after another.
-use Rattle.std.proofs.Common.{◌≡◌, ◌==◌, ◌||◌, if◌then◌else◌, ◌∙◌, ℕ, Bool, true, false, List, [], ◌∷◌, ◌++◌, Option, Some, None, Result, Ok, Err, is_err, is_ok, OnOk, OnErr, length, take, ap, refl, subst, sym, arith, append-nil}
+use Rattle.std.proofs.Common.{◌≡◌, ◌==◌, ◌||◌, ◌⊎◌, inl, inr, if◌then◌else◌, ◌∙◌, ℕ, Bool, true, false, List, [], ◌∷◌, ◌++◌, Option, Some, None, Result, Ok, Err, is_err, is_ok, OnOk, OnErr, IfErr, length, take, ap, refl, subst, sym, arith, append-nil}
 use Rattle.std.proofs.lemmas.Grind.{common_steps}
 use Rattle.std.proofs.lemmas.List.{take-append-le}
 use Rattle.std.specs.BTreeMap.{is_at}
@@ -11,6 +11,7 @@ use Rattle.ft_objects.specs.Families.{families_offer}
 use Rattle.ft_orb.specs.declared.ending.Ending.TheVariants.{Memory as OutOfMemory}
 use Rattle.ft_orb.specs.declared.parked.Waiter.{Waiter}
 use Rattle.ft_orb.specs.Carrying.{reply_with}
+use Rattle.ft_orb.specs.Engines.{AreEndings, EndsLast, EndsShort}
 use Rattle.ft_orb.specs.Deeds.{Missed, Reached, Told, reply_to, rest_of}
 use Rattle.ft_orb.specs.declared.engine.Engine.{Engine}
 use Rattle.ft_orb.specs.declared.error.ServeError.{ServeError}
@@ -25,9 +26,9 @@ use Rattle.lemonrudder.specs.declared.serving.Serving.{Serving}
 use Rattle.lemonrudder.specs.Connected.{AreAsNoted, Notes, OnlyDue, is_there, owed_in}
 use Rattle.lemonrudder.specs.Dues.{owed}
 use Rattle.lemonrudder.specs.Replying.{Contexts}
-use Rattle.lemonrudder.specs.Serves.{KeepsNotes, is_named, owed_on}
+use Rattle.lemonrudder.specs.Serves.{KeepsEndings, KeepsNotes, is_named, owed_on}
 use Rattle.lemonrudder.specs.Settling.{TellsAll}
-use Rattle.lemonrudder.specs.Telling.{AreTold, NotesTold, Parts, PartsFrom, Scene, Tells, after_goodbye, after_one, is_left, is_reached, reply_on, who}
+use Rattle.lemonrudder.specs.Telling.{AreTold, EndsTold, NotesTold, Parts, PartsFrom, Scene, Tells, after_goodbye, after_one, is_left, is_reached, reply_on, who}
 use Rattle.lemonrudder.proofs.Idling.{not_so}
 
 -- what is due after a Due was taken and another was put, which has more
@@ -41,15 +42,27 @@ due-after c q more k l m d e took taken put after grown there = by (c == q) refl
         subst (λ y. owed_in m y ≡ owed_in k y ++ more) here (put (taken.0 ∙ subst (λ y. is_there k y ≡ true) (sym here) there) ∙ grown ∙ ap (λ (l : List ℕ). l ++ more) took)
     by false is = (after.1 q is).1 ∙ (taken.1 q is).1 ∙ sym (append-nil (owed_in k q))
 
+-- a reply that was made ended nothing ..
+pub reached-ends : {P : Type 0} (r : Result (Unit {0}) ServeError) → is_err r ≡ false → OnOk r P → P
+reached-ends (Ok y) made so = so
+reached-ends (Err e) made so = absurd cc
+
+-- .. and one for which memory was short its connection, if it was there
+pub missed-ends : (r : Result (Unit {0}) ServeError) (old new : Engine Families) (c : ℕ) → is_err r ≡ true → IfErr r (λ e. EndsShort old new c e) → EndsLast new c OutOfMemory ⊎ AreEndings old new
+missed-ends (Ok y) old new c missed so = absurd cc
+missed-ends (Err serving.NoConnection) old new c missed so = inr so
+missed-ends (Err (serving.Memory handled answered)) old new c missed so = inl so
+
 module _ (x : Settings) (held : ℕ → Holding) (calls : List Call) (n : ℕ) (carried : Waiter → Contexts) (outcome : Performed) where
   -- where connections and names are the same, it is the same
-  tells-from : (g : Scene) (d : Told) (s m t : Serving) → m.connections ≡ s.connections → m.ready ≡ s.ready → Tells x held calls n carried outcome g d m t → Tells x held calls n carried outcome g d s t
-  tells-from g d s m t connections ready a = record {
+  tells-from : (g : Scene) (d : Told) (s m t : Serving) → m.connections ≡ s.connections → m.ready ≡ s.ready → KeepsEndings s m → Tells x held calls n carried outcome g d m t → Tells x held calls n carried outcome g d s t
+  tells-from g d s m t connections ready same a = record {
     first = a.first;
     there = λ c. a.there c ∙ ap (λ (k : Connections). is_there k c) connections;
     owed = λ c is. a.owed c (ap (λ (k : Connections). is_there k c) connections ∙ is) ∙ ap (λ (k : Connections). owed_in k c ++ reply_on c carried outcome d) connections;
     named = λ c. a.named c ∙ ap (λ (y : BTreeSet ℕ). contains nat_cmp y c || is_reached c d) ready;
     noted = noted d a.noted;
+    ended = ended d a.ended;
     stays = a.stays;
   }
     where
@@ -57,20 +70,25 @@ module _ (x : Settings) (held : ℕ → Holding) (calls : List Call) (n : ℕ) (
       noted (Reached w) h = subst (λ (k : Connections). AreAsNoted k t.connections) connections h
       noted (Missed w) h = subst (λ (k : Connections). Notes w.connection (Some OutOfMemory) k t.connections) connections h
 
-  pub told-from : (told : List Told) (g h : Scene) (s m t : Serving) → m.connections ≡ s.connections → m.ready ≡ s.ready → AreTold x held calls n carried outcome told g h m t → AreTold x held calls n carried outcome told g h s t
-  told-from [] g h s m t connections ready a = (a.0, a.1 ∙ connections, a.2 ∙ ready)
-  told-from (d ∷ told) g h s m t connections ready a = (a.0, a.1, a.2, tells-from g d s m a.1 connections ready a.3, a.4, a.5)
+      ended : (d : Told) → EndsTold d m t → EndsTold d s t
+      ended (Reached w) h = λ c. h c ∙ same c
+      ended (Missed w) (inl h) = inl h
+      ended (Missed w) (inr h) = inr (λ c. h c ∙ same c)
 
-  told-to : (told : List Told) (g h : Scene) (s m t : Serving) → t.connections ≡ m.connections → t.ready ≡ m.ready → AreTold x held calls n carried outcome told g h s m → AreTold x held calls n carried outcome told g h s t
-  told-to [] g h s m t connections ready a = (a.0, connections ∙ a.1, ready ∙ a.2)
-  told-to (d ∷ told) g h s m t connections ready a = (a.0, a.1, a.2, a.3, a.4, told-to told a.0 h a.2 m t connections ready a.5)
+  pub told-from : (told : List Told) (g h : Scene) (s m t : Serving) → m.connections ≡ s.connections → m.ready ≡ s.ready → KeepsEndings s m → AreTold x held calls n carried outcome told g h m t → AreTold x held calls n carried outcome told g h s t
+  told-from [] g h s m t connections ready same a = (a.0, a.1 ∙ connections, a.2 ∙ ready, λ c. a.3 c ∙ same c)
+  told-from (d ∷ told) g h s m t connections ready same a = (a.0, a.1, a.2, tells-from g d s m a.1 connections ready same a.3, a.4, a.5)
+
+  told-to : (told : List Told) (g h : Scene) (s m t : Serving) → t.connections ≡ m.connections → t.ready ≡ m.ready → KeepsEndings m t → AreTold x held calls n carried outcome told g h s m → AreTold x held calls n carried outcome told g h s t
+  told-to [] g h s m t connections ready same a = (a.0, connections ∙ a.1, ready ∙ a.2, λ c. same c ∙ a.3 c)
+  told-to (d ∷ told) g h s m t connections ready same a = (a.0, a.1, a.2, a.3, a.4, told-to told a.0 h a.2 m t connections ready same a.5)
 
   -- one more was told
-  told-more : (told : List Told) (d : Told) (g h f : Scene) (s m k u t : Serving) → k.connections ≡ m.connections → k.ready ≡ m.ready → AreTold x held calls n carried outcome told g h s m → Tells x held calls n carried outcome h d k u
+  told-more : (told : List Told) (d : Told) (g h f : Scene) (s m k u t : Serving) → k.connections ≡ m.connections → k.ready ≡ m.ready → KeepsEndings m k → AreTold x held calls n carried outcome told g h s m → Tells x held calls n carried outcome h d k u
       → PartsFrom x (who d).connection (after_one x n h d) f u t → AreTold x held calls n carried outcome (told ++ d ∷ []) g f s t
-  told-more [] d g h f s m k u t connections ready a one part =
-      (f, u, t, tells-from g d s k u (connections ∙ a.1) (ready ∙ a.2) (subst (λ (y : Scene). Tells x held calls n carried outcome y d k u) a.0 one), subst (λ (y : Scene). PartsFrom x (who d).connection (after_one x n y d) f u t) a.0 part, (refl, refl, refl))
-  told-more (e ∷ told) d g h f s m k u t connections ready a one part = (a.0, a.1, a.2, a.3, a.4, told-more told d a.0 h f a.2 m k u t connections ready a.5 one part)
+  told-more [] d g h f s m k u t connections ready same a one part =
+      (f, u, t, tells-from g d s k u (connections ∙ a.1) (ready ∙ a.2) (λ c. same c ∙ a.3 c) (subst (λ (y : Scene). Tells x held calls n carried outcome y d k u) a.0 one), subst (λ (y : Scene). PartsFrom x (who d).connection (after_one x n y d) f u t) a.0 part, (refl, refl, refl, λ c. refl))
+  told-more (e ∷ told) d g h f s m k u t connections ready same a one part = (a.0, a.1, a.2, a.3, a.4, told-more told d a.0 h f a.2 m k u t connections ready same a.5 one part)
 
   -- a connection parts, if it is left, and the engine stands for what happened by then
   parts-by : (c : ℕ) (g : Scene) (s t : Serving) → Parts c s t → Stays families_offer x held calls s.engine g.past g.waiting → (f : Scene) × PartsFrom x c g f s t × Stays families_offer x held calls t.engine f.past f.waiting
@@ -85,7 +103,7 @@ module _ (x : Settings) (held : ℕ → Holding) (calls : List Call) (n : ℕ) (
           (g, (λ left. absurd (not_so is left), λ _. (refl, p)), subst (λ (y : Serving). Stays families_offer x held calls y.engine g.past g.waiting) (sym p) st)
 
   -- who is next was told too
-  pub told-next : (told : List Told) (g h : Scene) (s m k u t : Serving) → k.connections ≡ m.connections → k.ready ≡ m.ready → AreTold x held calls n carried outcome told g h s m → Stays families_offer x held calls m.engine h.past h.waiting → (c : ℕ)
+  pub told-next : (told : List Told) (g h : Scene) (s m k u t : Serving) → k.connections ≡ m.connections → k.ready ≡ m.ready → KeepsEndings m k → AreTold x held calls n carried outcome told g h s m → Stays families_offer x held calls m.engine h.past h.waiting → (c : ℕ)
       → told_in m.engine n ≡ Some outcome
       → ((held : ℕ → Holding) (calls : List Call) (past : List Event) (waiting : ℕ → List Waiter) → Stays families_offer x held calls m.engine past waiting → IsDueLate families_offer x held calls past waiting n (told_in m.engine n) (Some c) k.engine)
       → told_in k.engine n ≡ told_in m.engine n
@@ -93,21 +111,21 @@ module _ (x : Settings) (held : ℕ → Holding) (calls : List Call) (n : ℕ) (
       → told_in k.engine n ≡ Some outcome → waiting n ≡ w ∷ rest → w.connection ≡ c → (d : Told) × (who d ≡ w) × Tells x held calls n carried outcome (record { past = past; waiting = waiting }) d k u)
       → Parts c u t
       → (told : List Told) × (f : Scene) × AreTold x held calls n carried outcome told g f s t × Stays families_offer x held calls t.engine f.past f.waiting
-  told-next told g h s m k u t connections ready so st c telling due same tell parts =
+  told-next told g h s m k u t connections ready kept so st c telling due same tell parts =
       let d = subst (λ (o : Option Performed). IsDueLate families_offer x held calls h.past h.waiting n o (Some c) k.engine) telling (due held calls h.past h.waiting st) in
       let one = tell held calls h.past h.waiting d.1 d.2 d.0 (same ∙ telling) d.3 d.4 in
       let on : (who one.0).connection ≡ c = ap (λ (w : Waiter). w.connection) one.1 ∙ d.4 in
       let p = parts-by (who one.0).connection (after_one x n h one.0) u t (subst (λ y. Parts y u t) (sym on) parts) one.2.stays in
-      (told ++ one.0 ∷ [], p.0, told-more told one.0 g h p.0 s m k u t connections ready so one.2 p.1, p.2)
+      (told ++ one.0 ∷ [], p.0, told-more told one.0 g h p.0 s m k u t connections ready kept so one.2 p.1, p.2)
 
   -- nobody is left
-  pub tells-all : (told : List Told) (g h : Scene) (s m k : Serving) → k.connections ≡ m.connections → k.ready ≡ m.ready → AreTold x held calls n carried outcome told g h s m → Stays families_offer x held calls m.engine h.past h.waiting
+  pub tells-all : (told : List Told) (g h : Scene) (s m k : Serving) → k.connections ≡ m.connections → k.ready ≡ m.ready → KeepsEndings m k → AreTold x held calls n carried outcome told g h s m → Stays families_offer x held calls m.engine h.past h.waiting
       → told_in m.engine n ≡ Some outcome
       → ((held : ℕ → Holding) (calls : List Call) (past : List Event) (waiting : ℕ → List Waiter) → Stays families_offer x held calls m.engine past waiting → IsDueLate families_offer x held calls past waiting n (told_in m.engine n) None k.engine)
       → TellsAll x held calls n carried outcome g s k
-  tells-all told g h s m k connections ready so st telling due =
+  tells-all told g h s m k connections ready kept so st telling due =
       let d = subst (λ (o : Option Performed). IsDueLate families_offer x held calls h.past h.waiting n o None k.engine) telling (due held calls h.past h.waiting st) in
-      record { i = d.i; taken = d.taken; was = d.was; told = told; last = h; are_told = told-to told g h s m k connections ready so; none = d.told; stays = d.stays }
+      record { i = d.i; taken = d.taken; was = d.was; told = told; last = h; are_told = told-to told g h s m k connections ready kept so; none = d.told; stays = d.stays }
 
   -- a reply was made
   pub reply-made : (past : List Event) (waiting : ℕ → List Waiter) (w : Waiter) (rest : List Waiter) (r : Result (Unit {0}) ServeError) (e : Engine Families) (before out : List ℕ) → is_err r ≡ false
@@ -127,14 +145,15 @@ module _ (x : Settings) (held : ℕ → Holding) (calls : List Call) (n : ℕ) (
       → ((c : ℕ) → is_there t.connections c ≡ is_there s.connections c)
       → ((c : ℕ) → is_there s.connections c ≡ true → owed_on t c ≡ owed_on s c ++ (if w.connection == c then reply_with (carried w) w.asker outcome else []))
       → ((c : ℕ) → is_named t c ≡ (is_named s c || (w.connection == c)))
-      → KeepsNotes s t
+      → KeepsNotes s t → KeepsEndings s t
       → Tells x held calls n carried outcome (record { past = past; waiting = waiting }) (Reached w) s t
-  tells-reached past waiting w rest s t is st there owed named noted = record {
+  tells-reached past waiting w rest s t is st there owed named noted ended = record {
     first = is ∙ ap (λ (l : List Waiter). w ∷ l) (sym (ap rest_of is));
     there = there;
     owed = owed;
     named = named;
     noted = noted;
+    ended = ended;
     stays = subst (λ (l : List Waiter). Stays families_offer x held calls t.engine past (put_at n l waiting)) (sym (ap rest_of is)) st;
   }
 
@@ -143,14 +162,15 @@ module _ (x : Settings) (held : ℕ → Holding) (calls : List Call) (n : ℕ) (
       → ((c : ℕ) → is_there t.connections c ≡ is_there s.connections c)
       → ((c : ℕ) → is_there s.connections c ≡ true → owed_on t c ≡ owed_on s c)
       → ((c : ℕ) → is_named t c ≡ is_named s c)
-      → Notes w.connection (Some OutOfMemory) s.connections t.connections
+      → Notes w.connection (Some OutOfMemory) s.connections t.connections → EndsTold (Missed w) s t
       → Tells x held calls n carried outcome (record { past = past; waiting = waiting }) (Missed w) s t
-  tells-missed past waiting w rest s t is st there owed named noted = record {
+  tells-missed past waiting w rest s t is st there owed named noted ended = record {
     first = is ∙ ap (λ (l : List Waiter). w ∷ l) (sym (ap rest_of is));
     there = there;
     owed = λ c at. owed c at ∙ sym (append-nil (owed_on s c));
     named = λ c. named c ∙ or-false (is_named s c);
     noted = noted;
+    ended = ended;
     stays = subst (λ (l : List Waiter). Stays families_offer x held calls t.engine (Lost w.connection ∷ past) (still x.limits (Lost w.connection ∷ past) (put_at n l waiting))) (sym (ap rest_of is)) st;
   }
     where

@@ -1,6 +1,6 @@
 -- Messages that are written into a room.
-use Rattle.std.proofs.Common.{◌≡◌, ◌∙◌, ℕ, ◌+◌, ◌<◌, ◌≤◌, ◌^◌, ◌==◌, Bool, true, List, [], ◌∷◌, ◌++◌, length, map, Option, Some, None, Result, Ok, Err, ◌⊎◌, refl, ap, sym, subst, inl, inr, arith, length-append, append-nil}
-use Rattle.std.proofs.lemmas.Bool.{cases_lt, eqb-true}
+use Rattle.std.proofs.Common.{◌≡◌, ◌∙◌, ℕ, ◌+◌, ◌<◌, ◌≤◌, ◌^◌, List, [], ◌∷◌, ◌++◌, length, map, Option, Some, None, Result, Ok, Err, ◌⊎◌, refl, ap, sym, subst, inl, inr, arith, append-nil}
+use Rattle.std.proofs.lemmas.Bool.{cases_lt}
 use Rattle.std.proofs.lemmas.Result.{err_from_is_err_and}
 use Rattle.std.specs.Result.{IsErrAnd}
 use Rattle.cdr_core.specs.declared.order.Order.{Order}
@@ -12,15 +12,20 @@ use Rattle.cdr_core.specs.View.{value_of, values_of}
 use Rattle.cdr_core.specs.Writing.{AreWritable, octets_of_all}
 use Rattle.giop_core.specs.declared.error.WriteError.{WriteError}
 use Rattle.giop_core.specs.declared.error.WriteError.TheVariants.{Memory, TooLong}
+use Rattle.giop_core.specs.declared.header.MessageKind.{MessageKind}
 use Rattle.giop_core.specs.declared.header.MessageKind.TheVariants as kind
 use Rattle.giop_core.specs.declared.header.Version.{Version}
 use Rattle.giop_core.specs.declared.header.Version.TheVariants.{V10, V11, V12}
-use Rattle.giop_core.specs.Written.{Wrote, behind_gap, behind_header, body_octets, message_octets, octets_body}
+use Rattle.giop_core.specs.declared.request.ReplyWish.{ReplyWish}
+use Rattle.giop_core.specs.Written.{Wrote, WroteOctets, behind_gap, behind_header, body_octets, message_octets, octets_body}
+use Rattle.lemonrudder.specs.declared.messages.Asking.{Asking}
 use Rattle.lemonrudder.specs.declared.refusal.Refusal.{Refusal}
 use Rattle.lemonrudder.specs.declared.refusal.Refusal.TheVariants as refusal
 use Rattle.lemonrudder.specs.Naming.{order_named, version_named}
 use Rattle.lemonrudder.specs.Refusals.{filled, refusal_of_writing}
-use Rattle.lemonrudder.specs.Writes.{CanBegin, CanStand, IsManner, Writing, counted, manner, message, named, placed}
+use Rattle.lemonrudder.specs.Sizes.{HasRoom, body_end, fields_end}
+use Rattle.lemonrudder.specs.Writes.{CanStand, IsManner, Writing, asked, asked_fields, counted, manner, message, named, placed, said_by}
+use Rattle.lemonrudder.proofs.Sized.{message_size, request_place, request_size}
 
 -- in a version and an order of which one has no name
 no_order : (v : Option Version) (o : Option Order) (W : Version → Order → Writing) (room : List ℕ) → o ≡ None → named v (λ a. named o (W a)) room room (Err refusal.Range)
@@ -47,19 +52,6 @@ read_writable vs octets is = subst (λ all. AreWritable (values all)) (sym is) (
 
 -- a Request with a body that comes as octets
 
-none_behind : (v : Version) (o : Order) (place : ℕ) → body_octets v kind.Request o no_values place ≡ []
-none_behind V10 o place = refl
-none_behind V11 o place = refl
-none_behind V12 o place = refl
-
--- it is no shorter than without its body
-shorter : (v : Version) (o : Order) (fields : List Value) (body : Values) → length (behind_header v kind.Request o fields no_values) ≤ length (behind_header v kind.Request o fields body)
-unfolding behind_header
-shorter v o fields body =
-    let front : List ℕ = octets_of_all o (values fields) 12 in
-    let none : length (body_octets v kind.Request o no_values (12 + length front)) ≡ 0 = ap length (none_behind v o (12 + length front)) in
-    omega (arith, length-append front (body_octets v kind.Request o no_values (12 + length front)), length-append front (body_octets v kind.Request o body (12 + length front)))
-
 same_octets : (o : Order) (octets : List ℕ) (place : ℕ) → octets_of_all o (values (map octet_value octets)) place ≡ octets_of_all o (octets_body octets) place
 same_octets o octets place = sym (append-nil (octets_of_all o (values (map octet_value octets)) place))
 
@@ -76,16 +68,51 @@ same_request v o fields octets = ap (λ ys. octets_of_all o (values fields) 12 +
 read_request : (v : Version) (o : Order) (fields : List Value) (vs : List Val) (octets : List ℕ) → map value_of vs ≡ map octet_value octets → behind_header v kind.Request o fields (values_of vs) ≡ behind_header v kind.Request o fields (octets_body octets)
 read_request v o fields vs octets is = ap (λ all. behind_header v kind.Request o fields (values all)) is ∙ same_request v o fields octets
 
--- what a Request is refused, before its body is written and with it
-pub ask_refused : (v : Version) (o : Order) (fields : List Value) (Can : Type 0) (body room old new : List ℕ) (e : WriteError) → Wrote {A = Unit {0}} v kind.Request o (behind_header v kind.Request o fields no_values) (Err e) old new
-    → placed Can (message v kind.Request o (behind_header v kind.Request o fields (octets_body body))) room room (Err (refusal_of_writing e))
-ask_refused v o fields Can body room old new TooLong wrote = let short = shorter v o fields (octets_body body) in let long = wrote.0 in (omega arith, refl)
-ask_refused v o fields Can body room old new Memory wrote = refl
+-- whether there is room
 
-pub ask_refused_whole : (v : Version) (o : Order) (fields : List Value) (Can : Type 0) (body room old new : List ℕ) (vs : List Val) (e : WriteError) → map value_of vs ≡ map octet_value body → Wrote {A = Unit {0}} v kind.Request o (behind_header v kind.Request o fields (values_of vs)) (Err e) old new
-    → placed Can (message v kind.Request o (behind_header v kind.Request o fields (octets_body body))) room room (Err (refusal_of_writing e))
-ask_refused_whole v o fields Can body room old new vs TooLong is wrote = (subst (λ (xs : List ℕ). 2 ^ 32 ≤ length xs) (read_request v o fields vs body is) wrote.0, refl)
-ask_refused_whole v o fields Can body room old new vs Memory is wrote = refl
+-- there is none, or a count is too small
+pub no_room : (limit size behind : ℕ) (all octets room : List ℕ) (e : Refusal) → limit + 1 ≡ 2 ^ 32 + behind → length all + behind ≡ size → length octets ≡ size → HasRoom limit size (length room) (Err e) → counted all octets room room (Err e)
+no_room limit size behind all octets room refusal.Long most of is h = (omega arith, refl)
+no_room limit size behind all octets room refusal.Room most of is h = (omega arith, (omega arith, refl))
+no_room limit size behind all octets room e most of is h = absurd h
+
+-- there is, and memory is short
+pub no_memory : (limit size behind : ℕ) (all octets room : List ℕ) → limit + 1 ≡ 2 ^ 32 + behind → length all + behind ≡ size → length octets ≡ size → HasRoom limit size (length room) (Ok tt) → counted all octets room room (Err refusal.Memory)
+no_memory limit size behind all octets room most of is h = (omega arith, omega arith, refl)
+
+-- .. or they are not written
+pub octets_unwritten : (limit size : ℕ) (octets room old new : List ℕ) (e : WriteError) → limit + 1 ≡ 2 ^ 32 → length octets ≡ size → HasRoom limit size (length room) (Ok tt) → WroteOctets {A = Unit {0}} octets (Err e) old new
+    → counted octets octets room room (Err (refusal_of_writing e))
+octets_unwritten limit size octets room old new TooLong most is h wrote = (wrote.0, refl)
+octets_unwritten limit size octets room old new Memory most is h wrote = no_memory limit size 0 octets octets room (omega arith) (omega arith) is h
+
+pub octets_no_room : (limit size : ℕ) (octets room : List ℕ) (e : Refusal) → limit + 1 ≡ 2 ^ 32 → length octets ≡ size → HasRoom limit size (length room) (Err e) → counted octets octets room room (Err e)
+octets_no_room limit size octets room e most is h = no_room limit size 0 octets octets room e (omega arith) (omega arith) is h
+
+-- a message that there is no room for, or no memory, or which is not written
+module _ (v : Version) (k : MessageKind) (o : Order) (after room : List ℕ) (size : ℕ) (is : 12 + length after ≡ size) where
+  pub message_no_room : (e : Refusal) → HasRoom 4294967307 size (length room) (Err e) → message v k o after room room (Err e)
+  message_no_room e h = no_room 4294967307 size 12 after (message_octets v k o after) room e refl (omega arith) (message_size v k o after ∙ is) h
+
+  pub message_no_memory : HasRoom 4294967307 size (length room) (Ok tt) → message v k o after room room (Err refusal.Memory)
+  message_no_memory h = no_memory 4294967307 size 12 after (message_octets v k o after) room refl (omega arith) (message_size v k o after ∙ is) h
+
+  pub message_unwritten : (old new : List ℕ) (e : WriteError) → HasRoom 4294967307 size (length room) (Ok tt) → Wrote {A = Unit {0}} v k o after (Err e) old new → message v k o after room room (Err (refusal_of_writing e))
+  message_unwritten old new TooLong h wrote = (wrote.0, refl)
+  message_unwritten old new Memory h wrote = message_no_memory h
+
+-- a body that can stand
+pub placed_can : (Can : Type 0) (v : Version) (k : MessageKind) (o : Order) (after room new : List ℕ) (e : Refusal) → Can → (e ≡ refusal.Place → ⊥) → message v k o after room new (Err e) → placed Can (message v k o after) room new (Err e)
+placed_can Can v k o after room new refusal.Place can never h = absurd (never refl)
+placed_can Can v k o after room new refusal.Long can never h = h
+placed_can Can v k o after room new e can never h = (can, h)
+
+pub unplaced : (limit size room : ℕ) (e : Refusal) → HasRoom limit size room (Err e) → e ≡ refusal.Place → ⊥
+unplaced limit size room e h is = subst (λ x. HasRoom limit size room (Err x)) is h
+
+pub unplaced_writing : (e : WriteError) → refusal_of_writing e ≡ refusal.Place → ⊥
+unplaced_writing TooLong is = absurd cc
+unplaced_writing Memory is = absurd cc
 
 -- what is written of it
 asks : (Can : Type 0) (whole out octets room new : List ℕ) (r : Result ℕ Refusal) → Can → length whole < 2 ^ 32 → out ≡ octets → (length out ≤ length room → (r ≡ Ok (length out)) × (new ≡ filled out room)) → (length room < length out → (r ≡ Err refusal.Room) × (new ≡ room)) → placed Can (counted whole octets) room new r
@@ -94,29 +121,42 @@ asks Can whole out octets room new r can few is all none = subst (λ xs. placed 
   by (inr le) = subst (λ s. placed Can (counted whole out) room new s) (sym (all le).0) (can, (few, (refl, le, (all le).1)))
   by (inl lt) = subst (λ s. placed Can (counted whole out) room new s) (sym (none lt).0) (can, (few, (lt, (none lt).1)))
 
--- without a body
-pub asks_bare : (v : Version) (o : Order) (fields : List Value) (place : ℕ) (body old made out room new : List ℕ) (b : Bool) (r : Result ℕ Refusal) → b ≡ (length body == 0) → b ≡ true → old ≡ [] → Wrote {A = Unit {0}} v kind.Request o (behind_header v kind.Request o fields no_values) (Ok tt) old made → out ≡ made
-    → (length out ≤ length room → (r ≡ Ok (length out)) × (new ≡ filled out room)) → (length room < length out → (r ≡ Err refusal.Room) × (new ≡ room)) → placed (CanStand v place body) (message v kind.Request o (behind_header v kind.Request o fields (octets_body body))) room new r
-asks_bare v o fields place body old made out room new b r counts is_empty none wrote lent all nothing =
-    let bare : body ≡ [] = no_octets body b counts is_empty in
-    let is : out ≡ message_octets v kind.Request o (behind_header v kind.Request o fields no_values) = lent ∙ wrote.1 ∙ ap (λ xs. xs ++ message_octets v kind.Request o (behind_header v kind.Request o fields no_values)) none in
-    subst (λ xs. placed (CanStand v place xs) (message v kind.Request o (behind_header v kind.Request o fields (octets_body xs))) room new r) (sym bare)
-    (subst (λ after. placed (CanStand v place []) (message v kind.Request o after) room new r) (same_request v o fields [])
-    (asks (CanStand v place []) (behind_header v kind.Request o fields no_values) out (message_octets v kind.Request o (behind_header v kind.Request o fields no_values)) room new r tt wrote.0 is all nothing))
-  where
-    no_octets : (xs : List ℕ) (c : Bool) → c ≡ (length xs == 0) → c ≡ true → xs ≡ []
-    no_octets [] c e f = refl
-    no_octets (x ∷ xs) c e f = let few : length (x ∷ xs) ≡ 0 = eqb-true _ _ (sym e ∙ f) in absurd (omega arith)
-
-can_stand : (v : Version) (place : ℕ) (body : List ℕ) → CanBegin v place → CanStand v place body
-can_stand v place [] can = tt
-can_stand v place (x ∷ xs) can = can
-
 -- with its body
-pub asks_whole : (v : Version) (o : Order) (fields : List Value) (place other : ℕ) (body old made out room new : List ℕ) (vs : List Val) (r : Result ℕ Refusal) → map value_of vs ≡ map octet_value body → place ≡ other → CanBegin v place → old ≡ [] → Wrote {A = Unit {0}} v kind.Request o (behind_header v kind.Request o fields (values_of vs)) (Ok tt) old made → out ≡ made
-    → (length out ≤ length room → (r ≡ Ok (length out)) × (new ≡ filled out room)) → (length room < length out → (r ≡ Err refusal.Room) × (new ≡ room)) → placed (CanStand v other body) (message v kind.Request o (behind_header v kind.Request o fields (octets_body body))) room new r
-asks_whole v o fields place other body old made out room new vs r are same can none wrote lent all nothing =
+pub asks_whole : (v : Version) (o : Order) (fields : List Value) (place : ℕ) (body old made out room new : List ℕ) (vs : List Val) (r : Result ℕ Refusal) → map value_of vs ≡ map octet_value body → CanStand v place body → old ≡ [] → Wrote {A = Unit {0}} v kind.Request o (behind_header v kind.Request o fields (values_of vs)) (Ok tt) old made → out ≡ made
+    → (length out ≤ length room → (r ≡ Ok (length out)) × (new ≡ filled out room)) → (length room < length out → (r ≡ Err refusal.Room) × (new ≡ room)) → placed (CanStand v place body) (message v kind.Request o (behind_header v kind.Request o fields (octets_body body))) room new r
+asks_whole v o fields place body old made out room new vs r are can none wrote lent all nothing =
     let after : List ℕ = behind_header v kind.Request o fields (values_of vs) in
     let is : out ≡ message_octets v kind.Request o after = lent ∙ wrote.1 ∙ ap (λ xs. xs ++ message_octets v kind.Request o after) none in
-    subst (λ xs. placed (CanStand v other body) (message v kind.Request o xs) room new r) (read_request v o fields vs body are)
-    (asks (CanStand v other body) after out (message_octets v kind.Request o after) room new r (can_stand v other body (subst (CanBegin v) same can)) wrote.0 is all nothing)
+    subst (λ xs. placed (CanStand v place body) (message v kind.Request o xs) room new r) (read_request v o fields vs body are)
+    (asks (CanStand v place body) after out (message_octets v kind.Request o after) room new r can wrote.0 is all nothing)
+
+-- A Request that is refused: by the place where its body would begin, and the size that it would have.
+module _ (v : Version) (o : Order) (w : ReplyWish) (a : Asking) (place size : ℕ) (room : List ℕ) (placed_at : place ≡ fields_end v (length a.key.now) (length a.operation.now) (length a.context.now)) where
+  abbrev After : Values → List ℕ
+  After body = behind_header v kind.Request o (asked_fields v w (said_by a)) body
+
+  begins : length (message_octets v kind.Request o (After no_values)) ≡ place
+  begins = request_place v o a.request_id w a.key.now a.operation.now a.context_id a.context.now ∙ sym placed_at
+
+  pub stands_there : CanStand v place a.body.now → CanStand v (length (message_octets v kind.Request o (After no_values))) a.body.now
+  stands_there can = subst (λ n. CanStand v n a.body.now) (sym begins) can
+
+  pub ask_misplaced : (CanStand v place a.body.now → ⊥) → asked v o w (said_by a) room room (Err refusal.Place)
+  ask_misplaced never = (λ can. never (subst (λ n. CanStand v n a.body.now) begins can), refl)
+
+  sized : size ≡ body_end v place (length a.body.now) → 12 + length (After (octets_body a.body.now)) ≡ size
+  sized is = request_size v o a.request_id w a.key.now a.operation.now a.context_id a.context.now a.body.now ∙ ap (λ p. body_end v p (length a.body.now)) (sym placed_at) ∙ sym is
+
+  pub ask_no_room : (e : Refusal) → size ≡ body_end v place (length a.body.now) → CanStand v place a.body.now → HasRoom 4294967307 size (length room) (Err e) → asked v o w (said_by a) room room (Err e)
+  ask_no_room e is can h =
+      placed_can _ v kind.Request o (After (octets_body a.body.now)) room room e (stands_there can) (unplaced _ _ _ e h) (message_no_room v kind.Request o (After (octets_body a.body.now)) room size (sized is) e h)
+
+  pub ask_no_memory : size ≡ body_end v place (length a.body.now) → CanStand v place a.body.now → HasRoom 4294967307 size (length room) (Ok tt) → asked v o w (said_by a) room room (Err refusal.Memory)
+  ask_no_memory is can h =
+      placed_can _ v kind.Request o (After (octets_body a.body.now)) room room refusal.Memory (stands_there can) (λ e. absurd cc) (message_no_memory v kind.Request o (After (octets_body a.body.now)) room size (sized is) h)
+
+  pub ask_unwritten : (vs : List Val) (old new : List ℕ) (e : WriteError) → map value_of vs ≡ map octet_value a.body.now → size ≡ body_end v place (length a.body.now) → CanStand v place a.body.now → HasRoom 4294967307 size (length room) (Ok tt)
+      → Wrote {A = Unit {0}} v kind.Request o (After (values_of vs)) (Err e) old new → asked v o w (said_by a) room room (Err (refusal_of_writing e))
+  ask_unwritten vs old new e are is can h wrote =
+      placed_can _ v kind.Request o (After (octets_body a.body.now)) room room (refusal_of_writing e) (stands_there can) (unplaced_writing e)
+      (message_unwritten v kind.Request o (After (octets_body a.body.now)) room size (sized is) old new e h (subst (λ xs. Wrote {A = Unit {0}} v kind.Request o xs (Err e) old new) (read_request v o (asked_fields v w (said_by a)) vs a.body.now are) wrote))

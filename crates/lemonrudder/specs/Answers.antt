@@ -1,6 +1,6 @@
 -- What the exports answer, by what the slot held before, and what it holds after.
 use Rattle.std.specs.Prelude.{◌≡◌, ℕ, ℤ, pos, Option, Some, None, Result, ◌⊎◌}
-use Rattle.lemonrudder.specs.declared.assembling.Assembling.{Assembling}
+use Rattle.lemonrudder.specs.Assembled.{Assembled}
 use Rattle.lemonrudder.specs.declared.calling.Calling.{Calling}
 use Rattle.lemonrudder.specs.declared.cataloguing.Cataloguing.{Cataloguing}
 use Rattle.lemonrudder.specs.declared.object.Object.{Object}
@@ -29,8 +29,8 @@ abbrev pub OnClient : (Calling → Calling → Result ℕ Refusal → Type 0) �
 OnClient P (Some (Client s)) after answer = (t : Calling) × (r : Result ℕ Refusal) × (after ≡ Some (Client t)) × (answer ≡ number_in r) × P s t r
 OnClient P before after answer = (answer ≡ error_number refusal.Empty) × (after ≡ before)
 
-abbrev pub OnAssembler : (Assembling → Assembling → Result ℕ Refusal → Type 0) → Option Object → Option Object → ℤ → Type 0
-OnAssembler P (Some (Assembler s)) after answer = (t : Assembling) × (r : Result ℕ Refusal) × (after ≡ Some (Assembler t)) × (answer ≡ number_in r) × P s t r
+abbrev pub OnAssembler : (Assembled → Assembled → Result ℕ Refusal → Type 0) → Option Object → Option Object → ℤ → Type 0
+OnAssembler P (Some (Assembler s)) after answer = (t : Assembled) × (r : Result ℕ Refusal) × (after ≡ Some (Assembler t)) × (answer ≡ number_in r) × P s t r
 OnAssembler P before after answer = (answer ≡ error_number refusal.Empty) × (after ≡ before)
 
 abbrev pub OnReference : (Referring → Referring → Result ℕ Refusal → Type 0) → Option Object → Option Object → ℤ → Type 0

@@ -1,11 +1,12 @@
 -- What a request says of itself and of its client, in the head of the caller.
-use Rattle.std.specs.Prelude.{ℕ, pos, min, List, length}
+use Rattle.std.specs.Prelude.{ℕ, pos, min, List, length, Option, Some, None}
 use Rattle.giop_core.specs.declared.header.Version.{Version}
 use Rattle.giop_core.specs.declared.request.ReplyWish.{ReplyWish}
 use Rattle.giop_core.specs.Ft as ft
 use Rattle.giop_core.specs.Ft.{Ft, ft_in}
+use Rattle.ft_log.specs.declared.system_exception.SystemName.{SystemName}
 use Rattle.lemonrudder.specs.declared.request.RequestHead.{RequestHead}
-use Rattle.lemonrudder.specs.Naming.{minor_number, wish_number}
+use Rattle.lemonrudder.specs.Naming.{minor_number, system_number, wish_number}
 
 -- a head that says nothing
 abbrev pub no_request : RequestHead
@@ -26,7 +27,14 @@ no_request = record {
   contexts = 0;
   client_size = 0;
   expiration = 0;
+  is_refused = 0;
+  refusal = 0;
 }
+
+-- a head with what would refuse a request of which its owner is asked first
+abbrev pub with_refusal : Option SystemName → RequestHead → RequestHead
+with_refusal None h = h
+with_refusal (Some name) h = record h { is_refused = 1; refusal = system_number name }
 
 -- a head with what FT_REQUEST says, if it is there and valid
 abbrev pub with_client : Ft → RequestHead → RequestHead

@@ -6,7 +6,7 @@ use Rattle.giop_frames.specs.declared.fault.StreamFault.{StreamFault}
 use Rattle.giop_frames.specs.declared.fault.StreamFault.TheVariants as fault
 use Rattle.giop_frames.specs.Standing.{IsFault, StandsFor, completed_at}
 use Rattle.giop_frames.specs.Streams.{messages_of}
-use Rattle.lemonrudder.specs.declared.assembling.Assembling.{Assembling}
+use Rattle.lemonrudder.specs.Assembled.{Assembled}
 use Rattle.lemonrudder.specs.declared.refusal.Refusal.{Refusal}
 use Rattle.lemonrudder.specs.declared.refusal.Refusal.TheVariants.{Range, Stream}
 use Rattle.lemonrudder.specs.Naming.{AreLimits, HasLimits}
@@ -36,12 +36,12 @@ abbrev pub kept_fault : ℕ → StreamFault → ℕ
 kept_fault old f = if old == 0 then fault_number f else old
 
 -- an assembler of a stream of which nothing has come; or its limits are none
-abbrev pub IsNew : (message partials : ℕ) → Result Assembling Refusal → Type 0
+abbrev pub IsNew : (message partials : ℕ) → Result Assembled Refusal → Type 0
 IsNew message partials (Ok s) = StandsFor s.assembler [] × (s.assembler.message ≡ None) × HasLimits message partials s.assembler.limits × (s.fault ≡ 0)
 IsNew message partials (Err e) = (e ≡ Range) × (¬ (AreLimits message partials))
 
 -- octets were taken, of a stream without a fault: the messages are those before, and the one that is lent, if there is one
-abbrev pub Takes : List ℕ → ℕ → Assembling → Assembling → Type 0
+abbrev pub Takes : List ℕ → ℕ → Assembled → Assembled → Type 0
 Takes piece n s t =
     (¬ (IsTrue s.assembler.failed)) × (t.assembler.limits ≡ s.assembler.limits)
     × (n ≤ length piece) × (0 < length piece → 0 < n) × (t.assembler.message ≡ None → n ≡ length piece) × (t.assembler.failed ≡ false) × (t.fault ≡ s.fault)
@@ -50,16 +50,16 @@ Takes piece n s t =
     × (messages_of s.assembler.limits (all ++ take n piece) ≡ messages_of s.assembler.limits all ++ completed_at (length (all ++ take n piece)) t.assembler.message))
 
 -- the stream has a fault, or an allocation failed, now or before: nothing is lent
-abbrev pub Fails : List ℕ → Assembling → Assembling → Type 0
+abbrev pub Fails : List ℕ → Assembled → Assembled → Type 0
 Fails piece s t =
     IsTrue t.assembler.failed × (t.assembler.limits ≡ s.assembler.limits) × (t.assembler.message ≡ None)
     × ((f : StreamFault) × (t.fault ≡ kept_fault s.fault f) × ((all : List ℕ) → StandsFor s.assembler all → IsFault s.assembler.limits all piece f))
 
 -- octets are fed
-abbrev pub OnFeed : List ℕ → Assembling → Assembling → Result ℕ Refusal → Type 0
+abbrev pub OnFeed : List ℕ → Assembled → Assembled → Result ℕ Refusal → Type 0
 OnFeed piece s t (Ok n) = Takes piece n s t
 OnFeed piece s t (Err e) = (e ≡ Stream) × Fails piece s t
 
 -- the first fault of the stream is asked for
-abbrev pub OnFault : Assembling → Assembling → Result ℕ Refusal → Type 0
+abbrev pub OnFault : Assembled → Assembled → Result ℕ Refusal → Type 0
 OnFault s t r = (t ≡ s) × (r ≡ Ok s.fault)

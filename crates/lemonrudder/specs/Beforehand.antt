@@ -12,7 +12,7 @@ use Rattle.lemonrudder.specs.declared.refusal.Refusal.TheVariants as refusal
 use Rattle.lemonrudder.specs.declared.serving.Serving.{Serving}
 use Rattle.lemonrudder.specs.declared.serving.questions.Found.{Found}
 use Rattle.lemonrudder.specs.Naming.{order_named}
-use Rattle.lemonrudder.specs.Outcomes.{AreMembers, AreResults, ByName, CanBe, exception_octets, interface_at, member_types}
+use Rattle.lemonrudder.specs.Outcomes.{AreMembers, AreResults, ByName, CanBe, MayBeRaised, exception_octets, interface_at, member_types}
 use Rattle.lemonrudder.specs.Questions.{Tells, TellsNone}
 use Rattle.lemonrudder.specs.RawCalls.{AreContexts}
 use Rattle.lemonrudder.specs.Replying.{Contexts, IsSaid, IsWhyUnsaid}
@@ -38,10 +38,10 @@ abbrev pub TellsIfCan : Found → Order → (body room new : List ℕ) → Servi
 TellsIfCan found order body room new s r =
     (CanBe found (raw UserException order body) s → Tells body room new r) × (¬ (CanBe found (raw UserException order body) s) → TellsNone refusal.Outcome room new r)
 
--- .. which raises one whose members are these octets; or memory is short, which only values of its types take
+-- .. which raises one whose members are these octets; or memory is short, which only values of its types take, and no body that is too long
 abbrev pub TellsException : Found → List ℕ → Option Forms → Order → (octets room new : List ℕ) → Serving → Result ℕ Refusal → Type 0
 TellsException found id None order octets room new s r = TellsNone refusal.Outcome room new r
-TellsException found id (Some types) order octets room new s r = (AreValues types order octets × TellsNone refusal.Memory room new r)
+TellsException found id (Some types) order octets room new s r = (AreValues types order octets × MayBeRaised id octets × TellsNone refusal.Memory room new r)
     ⊎ (((vs : Values) → AreMembers id types order octets vs → TellsIfCan found order (exception_octets order id vs) room new s r)
     × (((vs : Values) → ¬ (AreMembers id types order octets vs)) → TellsNone refusal.Outcome room new r))
 

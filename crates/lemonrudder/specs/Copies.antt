@@ -15,7 +15,7 @@ Fits octets room new (Ok n) = (n ≡ length octets) × (length octets ≤ length
 Fits octets room new (Err refusal.Room) = (length room < length octets) × (new ≡ room)
 Fits octets room new (Err e) = ⊥
 
--- the same; or there was no memory to make them
+-- the same; or there was no memory to make them, for which there is room
 abbrev pub FitsMade : List ℕ → (room new : List ℕ) → Result ℕ Refusal → Type 0
-FitsMade octets room new (Err refusal.Memory) = new ≡ room
+FitsMade octets room new (Err refusal.Memory) = (length octets ≤ length room) × (new ≡ room)
 FitsMade octets room new r = Fits octets room new r

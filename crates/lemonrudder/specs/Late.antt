@@ -1,6 +1,6 @@
 -- What a call on a server does to what it stands for, also where requests were refused before: by what is known of the calls that
 -- were taken. At rest a server `Stays`, and while a request waits it `AsksLate`.
-use Rattle.std.specs.Prelude.{◌≡◌, ℕ, ◌+◌, Bool, not, List, [], ◌∷◌, ◌++◌, length, IfOk, Some, Result}
+use Rattle.std.specs.Prelude.{◌≡◌, ℕ, ◌+◌, Bool, true, not, List, [], ◌∷◌, ◌++◌, length, IfOk, Some, Result}
 use Rattle.ft_log.specs.Holding.{Holding, known}
 use Rattle.ft_log.specs.Performed.{Performed}
 use Rattle.ft_objects.specs.Families.{families_offer}
@@ -12,7 +12,7 @@ use Rattle.ft_orb.specs.declared.parked.Waiter.{Waiter}
 use Rattle.ft_orb.specs.Carrying.{asker_in, reply_if, unless_failed}
 use Rattle.ft_orb.specs.Bounds.{StopsWhereDue, fed_in, piece_in}
 use Rattle.ft_orb.specs.Engines.{Awaited, EndsHeard, counts_in}
-use Rattle.ft_orb.specs.History.{Close, Event, Gone, Lost, Opened, Piece, completed, line}
+use Rattle.ft_orb.specs.History.{Close, Event, Gone, Lost, Opened, Piece, completed, does_count, line}
 use Rattle.ft_orb.specs.Outputs.{is_going}
 use Rattle.ft_orb.specs.Parking.{AsksLate, EndsLate, FeedsLate, ResumesLate, Settings, Stays, put_at, still}
 use Rattle.ft_orb.specs.Requests.{Call}
@@ -29,6 +29,10 @@ WhereStays s Does = (x : Settings) (held : ℕ → Holding) (calls : List Call) 
 abbrev pub WhereAsks : Serving → (Settings → (ℕ → Holding) → List Call → List Event → (ℕ → List Waiter) → ℕ → (octets written : List ℕ) → Awaited → Type 0) → Type 0
 WhereAsks s Does = (x : Settings) (held : ℕ → Holding) (calls : List Call) (past : List Event) (waiting : ℕ → List Waiter) (moment : ℕ) (octets written : List ℕ) (w : Awaited)
     → AsksLate families_offer x held calls s.engine past waiting moment octets written w → Does x held calls past waiting moment octets written w
+
+-- a number is new: greater than that of each connection before
+abbrev pub IsNewLate : ℕ → Serving → Type 0
+IsNewLate c s = WhereStays s (λ x held calls past waiting. does_count past c ≡ true)
 
 -- a connection is opened
 abbrev pub OpensLate : ℕ → Serving → Serving → Result (Unit {0}) ConnectError → Type 0

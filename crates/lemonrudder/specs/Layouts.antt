@@ -32,6 +32,8 @@ octets_of_request h =
     ++ to_le_bytes w32 h.contexts
     ++ to_le_bytes w64 h.client_size
     ++ to_le_bytes w64 h.expiration
+    ++ to_le_bytes w32 h.is_refused
+    ++ to_le_bytes w32 h.refusal
 
 -- `lr_message`
 unfoldable pub octets_of_message : MessageHead → List ℕ

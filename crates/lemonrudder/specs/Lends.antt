@@ -1,5 +1,6 @@
 -- What is reported of the message that an assembler lends.
-use Rattle.std.specs.Prelude.{◌≡◌, ℕ, ◌==◌, if◌then◌else◌, ℤ, pos, min, List, length, is_some, slice_get, unwrap_or, Option, Some, None, Result, Ok, Err}
+use Rattle.std.specs.Prelude.{◌≡◌, ℕ, ◌==◌, if◌then◌else◌, ℤ, pos, min, List, length, map, is_some, slice_get, unwrap_or, Option, Some, None, Result, Ok, Err}
+use Rattle.std.proofs.Common.{Vec, Global}
 use Rattle.std.specs.Int.{from_bool}
 use Rattle.std.specs.Option.{option_and_then, option_map_or}
 use Rattle.cdr_core.specs.declared.order.Order.{Order}
@@ -12,7 +13,7 @@ use Rattle.giop_core.specs.Ft.{Ft, ft_in}
 use Rattle.giop_core.specs.Keys.{key_of_addressed}
 use Rattle.giop_frames.specs.Fragments.{content_of}
 use Rattle.giop_frames.specs.Frames.{Frame}
-use Rattle.lemonrudder.specs.declared.assembling.Assembling.{Assembling}
+use Rattle.lemonrudder.specs.Assembled.{Assembled}
 use Rattle.lemonrudder.specs.declared.assembling.MessageHead.{MessageHead}
 use Rattle.lemonrudder.specs.declared.refusal.Refusal.{Refusal}
 use Rattle.lemonrudder.specs.Copies.{Copies}
@@ -148,7 +149,7 @@ abbrev pub said_in : Option Frame → Option Content
 said_in None = None
 said_in (Some f) = said_by (content_of f.header f.octets)
 
-abbrev pub said : Assembling → Option Content
+abbrev pub said : Assembled → Option Content
 said s = said_in s.assembler.message
 
 -- 1, and what the lent message says, as much of the struct as the room has; or 0, where none is lent, and the room is as it was
@@ -156,13 +157,23 @@ abbrev pub Tells : Option Frame → (room new : List ℕ) → Result ℕ Refusal
 Tells None room new r = (r ≡ Ok 0) × (new ≡ room)
 Tells (Some f) room new r = (r ≡ Ok 1) × ((c : Content) × (content_of f.header f.octets ≡ Ok c) × (new ≡ laid (octets_of_message (head_of f.header.version f.header.order c)) room))
 
-abbrev pub OnMessage : (room new : List ℕ) → Assembling → Assembling → Result ℕ Refusal → Type 0
+abbrev pub OnMessage : (room new : List ℕ) → Assembled → Assembled → Result ℕ Refusal → Type 0
 OnMessage room new s t r = (t ≡ s) × Tells s.assembler.message room new r
 
 -- a part of the lent message is copied, if there is one and it has it
-abbrev pub OnPart : ℕ → (room new : List ℕ) → Assembling → Assembling → Result ℕ Refusal → Type 0
+abbrev pub OnPart : ℕ → (room new : List ℕ) → Assembled → Assembled → Result ℕ Refusal → Type 0
 OnPart part room new s t r = (t ≡ s) × Copies (option_and_then (part_in part) (said s)) room new r
 
 -- a service context of the lent message is copied, and its id given, if there is one and it has it
-abbrev pub OnContext : ℕ → (id given : ℕ) → (room new : List ℕ) → Assembling → Assembling → Result ℕ Refusal → Type 0
+abbrev pub OnContext : ℕ → (id given : ℕ) → (room new : List ℕ) → Assembled → Assembled → Result ℕ Refusal → Type 0
 OnContext index id given room new s t r = (t ≡ s) × CopiesItem (option_and_then (context_in index) (said s)) id given room new r
+
+-- Words of private functions.
+
+-- a service context that was copied
+abbrev pub copied_item : ℕ × Vec ℕ Global → ℕ × List ℕ
+copied_item x = (x.0, x.1.items)
+
+-- copies of the service contexts that the message has which is lent
+abbrev pub AreThose : Option Frame → List (ℕ × Vec ℕ Global) → Type 0
+AreThose lent copies = option_and_then contexts_in (said_in lent) ≡ Some (map copied_item copies)

@@ -32,20 +32,16 @@ profile_to minor host port key = value.structure (values (octet_value 1 ∷ octe
 abbrev pub reference_to : (type_id : List ℕ) → (profile : Value) → Value
 reference_to type_id profile = value.structure (values (value.string type_id ∷ value.sequence (values (tag_and_octets tag_internet_iop (encapsulation_of profile) ∷ [])) ∷ []))
 
--- a reference of a type to an address is made; or there is no such version, or it can't be written, or memory is short
+-- a reference of a type to an address is made; or there is no such version, or it can't be written, which takes no memory, or memory is short
 abbrev pub IsAddressed : (type_id : List ℕ) → (minor : ℕ) → (profile : Value) → Result Referring Refusal → Type 0
 IsAddressed type_id minor profile (Ok s) = (minor ≤ 2) × IsWritable profile × IsWritable (reference s) × (reference s ≡ reference_to type_id profile)
 IsAddressed type_id minor profile (Err refusal.Range) = 2 < minor
 IsAddressed type_id minor profile (Err refusal.Text) = (minor ≤ 2) × ((¬ (IsWritable profile)) ⊎ (¬ (IsWritable (reference_to type_id profile))))
-IsAddressed type_id minor profile (Err refusal.Memory) = minor ≤ 2
+IsAddressed type_id minor profile (Err refusal.Memory) = (minor ≤ 2) × IsWritable profile × IsWritable (reference_to type_id profile)
 IsAddressed type_id minor profile (Err e) = ⊥
 
 -- Words of private functions.
 
--- the profile of a reference to an address is made; or there is no such version, or it can't be written, or memory is short
-abbrev pub IsProfiled : (minor : ℕ) → (profile : Value) → Result Tagged Refusal → Type 0
-IsProfiled minor profile (Ok p) = (minor ≤ 2) × IsWritable profile × (p.tag ≡ tag_internet_iop) × (p.octets.items ≡ encapsulation_of profile)
-IsProfiled minor profile (Err refusal.Range) = 2 < minor
-IsProfiled minor profile (Err refusal.Text) = (minor ≤ 2) × (¬ (IsWritable profile))
-IsProfiled minor profile (Err refusal.Memory) = minor ≤ 2
-IsProfiled minor profile (Err e) = ⊥
+-- the profile of such a reference
+abbrev pub IsProfile : (profile : Value) → Tagged → Type 0
+IsProfile profile p = (p.tag ≡ tag_internet_iop) × (p.octets.items ≡ encapsulation_of profile)

@@ -91,3 +91,45 @@ system_names = system.Marshal ∷ system.BadContext ∷ system.NoResources ∷ s
 
 abbrev pub system_name_named : ℕ → Option SystemName
 system_name_named n = slice_get system_names n
+
+abbrev pub system_number : SystemName → ℕ
+system_number system.Marshal = 0
+system_number system.BadContext = 1
+system_number system.NoResources = 2
+system_number system.BadOperation = 3
+system_number system.ObjectNotExist = 4
+system_number system.Unknown = 5
+system_number system.BadParam = 6
+system_number system.NoPermission = 7
+system_number system.ImpLimit = 8
+system_number system.Internal = 9
+system_number system.Transient = 10
+system_number system.NoMemory = 11
+system_number system.CommFailure = 12
+system_number system.InvObjref = 13
+system_number system.Initialize = 14
+system_number system.NoImplement = 15
+system_number system.BadTypecode = 16
+system_number system.NoResponse = 17
+system_number system.PersistStore = 18
+system_number system.BadInvOrder = 19
+system_number system.FreeMem = 20
+system_number system.InvIdent = 21
+system_number system.InvFlag = 22
+system_number system.IntfRepos = 23
+system_number system.ObjAdapter = 24
+system_number system.DataConversion = 25
+system_number system.TransactionRequired = 26
+system_number system.TransactionRolledback = 27
+system_number system.InvalidTransaction = 28
+system_number system.InvPolicy = 29
+system_number system.CodesetIncompatible = 30
+system_number system.Rebind = 31
+system_number system.Timeout = 32
+system_number system.TransactionUnavailable = 33
+system_number system.TransactionMode = 34
+system_number system.BadQos = 35
+system_number system.InvalidActivity = 36
+system_number system.ActivityCompleted = 37
+system_number system.ActivityRequired = 38
+system_number system.ThreadCancelled = 39

@@ -19,8 +19,9 @@ abbrev pub HasDoneNothing : Serving → Type 0
 HasDoneNothing t = (asks_in t.engine ≡ 0) × ((q : ℕ) → (parked_in t.engine q ≡ None) × (told_in t.engine q ≡ None)) × (counts_in t.engine ≡ no_counts) × ((c : ℕ) → ending_in t.engine c ≡ None)
 
 -- A server of these objects and families, within these limits, to which nothing has happened. Its engine was made without a bound of
--- the ids of clients, and then that was set: what is on offer has changed once.
+-- the ids of clients, and then that was set, and whether its owner is asked first: what is served has changed twice.
 abbrev pub IsNew : Families → Terms → Serving → Type 0
-IsNew f terms t = IsIdle t × (t.setup ≡ record { terms = terms; opened = false; said = None }) × (t.engine.offering ≡ record { catalogue = f; longest = Some terms.longest }) × ((c : ℕ) → is_there t.connections c ≡ false) × (t.ready.keys ≡ []) × HasDoneNothing t
+IsNew f terms t = IsIdle t × (t.setup ≡ record { terms = terms; opened = false; said = None }) × (t.engine.offering ≡ record { catalogue = f; longest = Some terms.longest; first = terms.first }) × ((c : ℕ) → is_there t.connections c ≡ false) × (t.ready.keys ≡ []) × HasDoneNothing t
     × ((held : ℕ → Holding) (on : ℕ → offered.Terms) → on 0 ≡ terms_of None (families_offer f) → on 1 ≡ terms_of (Some terms.longest) (families_offer f)
-    → Stays families_offer (record { terms = on; limits = terms.limits; capacity = terms.capacity; share = terms.share; places = terms.places }) held [] t.engine (Changed ∷ []) (λ n. []))
+    → on 2 ≡ record (terms_of (Some terms.longest) (families_offer f)) { first = terms.first }
+    → Stays families_offer (record { terms = on; limits = terms.limits; capacity = terms.capacity; share = terms.share; places = terms.places }) held [] t.engine (Changed ∷ Changed ∷ []) (λ n. []))

@@ -1,5 +1,5 @@
 -- What a call does that answers a request that waits or is parked.
-use Rattle.std.specs.Prelude.{◌≡◌, ◌⊎◌, ℕ, ◌<◌, Bool, false, not, bytes_eq, codes, if◌then◌else◌, List, [], ◌∷◌, ◌++◌, length, IsSome, Option, Some, None, option_map, Result, Ok, Err}
+use Rattle.std.specs.Prelude.{◌≡◌, ◌⊎◌, ℕ, ◌+◌, ◌*◌, ◌/◌, ◌<◌, ◌≤◌, Bool, false, not, bytes_eq, codes, if◌then◌else◌, List, [], ◌∷◌, ◌++◌, length, IsSome, Option, Some, None, option_map, Result, Ok, Err}
 use Rattle.std.proofs.Common.{Bor, Vec, Global}
 use Rattle.cdr_core.specs.declared.order.Order.{Order}
 use Rattle.cdr_core.specs.declared.types.Ty.{Ty}
@@ -20,8 +20,10 @@ use Rattle.ft_orb.specs.Engines.{Awaited, CanAnswer, waits_in}
 use Rattle.ft_orb.specs.Carrying.{asker_in, reply_if, unless_failed}
 use Rattle.ft_orb.specs.Parking.{CanSettle, parked_at}
 use Rattle.ft_objects.specs.Families.{families_ids, families_offer}
+use Rattle.ft_objects.specs.Replies.{body_limit}
 use Rattle.ft_objects.specs.Filling.{is_a_name, names_id, non_existent_name}
-use Rattle.ft_objects.specs.Interfaces.{Interface, Types, checked_operation, operation}
+use Rattle.ft_log.specs.declared.system_exception.SystemName.{SystemName}
+use Rattle.ft_objects.specs.Interfaces.{Interface, Types, checked_operation, operation, raw_operation}
 use Rattle.ft_orb.specs.Requests.{Call}
 use Rattle.lemonrudder.specs.declared.refusal.Refusal.{Refusal}
 use Rattle.lemonrudder.specs.declared.refusal.Refusal.TheVariants as refusal
@@ -82,9 +84,13 @@ abbrev pub ByName : {A : Type 0} → Option A → Serving → Serving → Result
 ByName None s t r Does = IsRefused refusal.Range s t r
 ByName (Some x) s t r Does = Does x
 
--- what the operation of a call is
+-- what the operation of a call is: raw, where it would be refused
+abbrev pub asked_as : Option SystemName → Interface → Interface
+asked_as None i = i
+asked_as (Some name) i = raw_operation
+
 abbrev pub interface_at : Serving → Awaited → Interface
-interface_at s w = (families_offer s.engine.offering.catalogue).interface w.call.object_key w.call.operation
+interface_at s w = asked_as w.refused ((families_offer s.engine.offering.catalogue).interface w.call.object_key w.call.operation)
 
 -- the types of an operation, if it has types
 abbrev pub types_in : Interface → Option Types
@@ -137,17 +143,26 @@ OnAnswer ticket order octets s t r = ByName (order_named order) s t r (λ o. ByC
 abbrev pub exception_octets : Order → List ℕ → Values → List ℕ
 exception_octets order id members = octets_of_all order (exception_body id members) 0
 
+-- Octets of members behind this repository id may be a body that a Reply takes, which has at least so many: how many it has the members
+-- alone tell, which stand elsewhere there.
+abbrev pub MayBeRaised : (id octets : List ℕ) → Type 0
+MayBeRaised id octets = (length id + 5) / 8 * 8 + length octets ≤ body_limit
+
 -- octets are these members of an exception, which can be written
 abbrev pub AreMembers : List ℕ → Forms → Order → List ℕ → Values → Type 0
 AreMembers id types order octets vs = SpellsMembers types order vs 0 octets × AreWritable (exception_body id vs)
+
+-- memory is short, which a body that is too long takes none of, and nothing has changed; or this
+abbrev pub UnlessShortToRaise : (id octets : List ℕ) → Serving → Serving → Result ℕ Refusal → Type 0 → Type 0
+UnlessShortToRaise id octets s t r Does = (MayBeRaised id octets × IsRefused refusal.Memory s t r) ⊎ Does
 
 -- An exception is raised whose members are these octets: that body is kept. Where there are no types, or the octets are no members, that is
 -- no outcome. Only values of its types take memory.
 abbrev pub Raises : (ticket : ℕ) → Found → List ℕ → Option Forms → Order → List ℕ → Serving → Serving → Result ℕ Refusal → Type 0
 Raises ticket found id None order octets s t r = IsRefused refusal.Outcome s t r
 Raises ticket found id (Some types) order octets s t r =
-    ((vs : Values) → AreMembers id types order octets vs → UnlessShort s t r (HandsIn ticket found 0 (raw UserException order (exception_octets order id vs)) s t r))
-    × (((vs : Values) → ¬ (AreMembers id types order octets vs)) → (AreValues types order octets × IsRefused refusal.Memory s t r) ⊎ IsRefused refusal.Outcome s t r)
+    ((vs : Values) → AreMembers id types order octets vs → UnlessShortToRaise id octets s t r (HandsIn ticket found 0 (raw UserException order (exception_octets order id vs)) s t r))
+    × (((vs : Values) → ¬ (AreMembers id types order octets vs)) → (AreValues types order octets × MayBeRaised id octets × IsRefused refusal.Memory s t r) ⊎ IsRefused refusal.Outcome s t r)
 
 -- an exception that the operation declares
 abbrev pub OnRaise : ℕ → List ℕ → ℕ → List ℕ → Serving → Serving → Result ℕ Refusal → Type 0
@@ -195,12 +210,13 @@ AreRead None order octets (Err e) = e ≡ refusal.Outcome
 AreRead (Some types) order octets (Ok v) = SpellsMembers types order (values_of v.items) 0 octets × ((vs : Values) → SpellsMembers types order vs 0 octets → values_of v.items ≡ vs)
 AreRead (Some types) order octets (Err e) = ((e ≡ refusal.Memory) × AreValues types order octets) ⊎ ((e ≡ refusal.Outcome) × ((vs : Values) → ¬ (SpellsMembers types order vs 0 octets)))
 
--- the body of an exception of such members, and of no others; or memory is short for these, or they are no members of one
+-- the body of an exception of such members, and of no others; or memory is short for these, or they are no members of one, or too long
 abbrev pub IsBody : List ℕ → Option Forms → Order → List ℕ → Result (Vec ℕ Global) Refusal → Type 0
 IsBody id None order octets (Ok body) = ⊥
 IsBody id None order octets (Err e) = e ≡ refusal.Outcome
 IsBody id (Some types) order octets (Ok body) = (vs : Values) × AreMembers id types order octets vs × ((us : Values) → AreMembers id types order octets us → vs ≡ us) × (body.items ≡ exception_octets order id vs)
-IsBody id (Some types) order octets (Err e) = ((e ≡ refusal.Memory) × AreValues types order octets) ⊎ ((e ≡ refusal.Outcome) × ((vs : Values) → ¬ (AreMembers id types order octets vs)))
+IsBody id (Some types) order octets (Err e) = ((e ≡ refusal.Memory) × AreValues types order octets × MayBeRaised id octets)
+    ⊎ ((e ≡ refusal.Outcome) × ((vs : Values) → AreMembers id types order octets vs → body_limit < length (exception_octets order id vs)))
 
 -- a copy of octets; or memory is short, which none take
 abbrev pub IsCopy : List ℕ → Result (Vec ℕ Global) Refusal → Type 0

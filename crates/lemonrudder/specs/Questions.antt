@@ -21,7 +21,7 @@ use Rattle.lemonrudder.specs.declared.refusal.Refusal.TheVariants as refusal
 use Rattle.lemonrudder.specs.declared.request.RequestHead.{RequestHead}
 use Rattle.lemonrudder.specs.declared.serving.Serving.{Serving}
 use Rattle.lemonrudder.specs.declared.serving.questions.Found.{Found}
-use Rattle.lemonrudder.specs.Asking.{no_request, with_question}
+use Rattle.lemonrudder.specs.Asking.{no_request, with_question, with_refusal}
 use Rattle.lemonrudder.specs.Layouts.{laid, octets_of_request}
 use Rattle.lemonrudder.specs.Outcomes.{interface_at}
 use Rattle.lemonrudder.specs.Refusals.{filled}
@@ -52,7 +52,7 @@ with_body i arguments h = record h {
 
 -- the head of a request that waits, whose operation is this and which says this
 abbrev pub head_of : Interface → Awaited → Question → RequestHead
-head_of i w q = with_body i w.call.arguments (with_question q.version q.id q.wish q.contexts (record no_request { ticket = ticket_of w.number; connection = w.connection; key_size = length w.call.object_key; operation_size = length w.call.operation }))
+head_of i w q = with_refusal w.refused (with_body i w.call.arguments (with_question q.version q.id q.wish q.contexts (record no_request { ticket = ticket_of w.number; connection = w.connection; key_size = length w.call.object_key; operation_size = length w.call.operation })))
 
 -- the head of what waits is reported, as much of the struct as the room has, and 1; where nothing waits 0, and the room is as it was
 abbrev pub OnAsked : (room new : List ℕ) → Serving → Serving → Result ℕ Refusal → Type 0
@@ -72,10 +72,10 @@ abbrev pub TellsIfSome : Option (List ℕ) → (room new : List ℕ) → Result 
 TellsIfSome (Some octets) room new r = Tells octets room new r
 TellsIfSome None room new r = TellsNone refusal.None room new r
 
--- arguments that are values, in big order from place 0
+-- arguments that are values, in big order from place 0, for which no memory is taken where they have no octets
 abbrev pub TellsValues : Values → (room new : List ℕ) → Result ℕ Refusal → Type 0
 TellsValues arguments room new r =
-    (AreWritable arguments → TellsNone refusal.Memory room new r ⊎ Tells (octets_of_all Big arguments 0) room new r)
+    (AreWritable arguments → ((0 < length (octets_of_all Big arguments 0)) × TellsNone refusal.Memory room new r) ⊎ Tells (octets_of_all Big arguments 0) room new r)
     × (¬ (AreWritable arguments) → TellsNone refusal.None room new r)
 
 -- the body: the octets that came; or arguments that are values

@@ -1,5 +1,5 @@
 -- What a call on a server does.
-use Rattle.std.specs.Prelude.{◌≡◌, ◌==◌, ◌⊎◌, ℕ, ◌<◌, ◌≤◌, Bool, true, false, min, max, List, [], length, drop, IfErr, IsSome, Option, Some, None, Result, Ok, Err}
+use Rattle.std.specs.Prelude.{◌≡◌, ◌==◌, ◌⊎◌, ℕ, ◌<◌, ◌≤◌, Bool, true, false, min, max, List, length, drop, IfErr, IsSome, Option, Some, None, Result, Ok, Err}
 use Rattle.std.specs.Int.{from_bool}
 use Rattle.std.specs.Ordering.{nat_cmp}
 use Rattle.std.specs.BTreeSet.{contains}
@@ -26,7 +26,7 @@ use Rattle.lemonrudder.specs.declared.serving.Serving.{Serving}
 use Rattle.lemonrudder.specs.declared.serving.questions.Found.{Found}
 use Rattle.lemonrudder.specs.declared.terms.Setup.{Setup}
 use Rattle.lemonrudder.specs.Connected.{AreAsNoted, AreOthers, AreOthersNoted, AreSame, Notes, OnlyDue, StartsLeaving, is_there, leaves_in, owed_in, why_in}
-use Rattle.lemonrudder.specs.Late.{ClosesLate, ForgetsLate, IsClosedLate, LosesLate, OpensLate, TakesLate, TicksLate}
+use Rattle.lemonrudder.specs.Late.{ClosesLate, ForgetsLate, IsClosedLate, IsNewLate, LosesLate, OpensLate, TakesLate, TicksLate}
 use Rattle.lemonrudder.specs.Refusals.{filled, refusal_of_connecting, refusal_of_serving}
 use Rattle.lemonrudder.specs.Tallied.{as_counted, one_given_up}
 use Rattle.lemonrudder.specs.Tickets.{called_by, waiting_by}
@@ -135,9 +135,10 @@ abbrev pub Opens : ℕ → Result (Unit {0}) ConnectError → Serving → Servin
 Opens c (Ok x) s t = (is_there t.connections c ≡ true) × (owed_on t c ≡ owed_on s c) × AreOthers c s.connections t.connections
 Opens c (Err e) s t = AreSame s.connections t.connections
 
--- a connection is opened: not while a request waits, and where memory is short for one that is not there nothing has changed
+-- a connection is opened: not while a request waits, and where memory is short for one that is not there, whose number is new, nothing
+-- has changed
 abbrev pub OnConnect : ℕ → Serving → Serving → Result ℕ Refusal → Type 0
-OnConnect c s t r = WhereIdle s t r (((r ≡ Err refusal.Memory) × (is_there s.connections c ≡ false) × IsSame s t)
+OnConnect c s t r = WhereIdle s t r (((r ≡ Err refusal.Memory) × (is_there s.connections c ≡ false) × IsNewLate c s × IsSame s t)
     ⊎ ((o : Result (Unit {0}) ConnectError) × (r ≡ done_of 0 refusal_of_connecting o) × IsIdle t × Opens c o s t × (t.ready ≡ s.ready) × (t.engine.offering ≡ s.engine.offering) × (t.setup ≡ opened_with o s.setup) × KeepsParked as_counted s t
     × OpensLate c s t o × KeepsNotes s t × KeepsEndings s t))
 
@@ -187,7 +188,7 @@ taken_of size (Err e) = Err (refusal_of_serving e)
 -- the engine takes octets until as many are due as may be, and what it writes is due after what was
 abbrev pub Takes : (c moment : ℕ) → List ℕ → Serving → Serving → Result Taken ServeError → Type 0
 Takes c moment octets s t f =
-    IsLeftAt c (length (piece_in octets f)) (fed_in f) (waits_in t.engine) × IsNumbered (asks_in s.engine) (asks_in t.engine) (fed_in f) (waits_in t.engine) × IsFit (families_offer t.engine.offering.catalogue) (waits_in t.engine)
+    IsLeftAt c (length (piece_in octets f)) (fed_in f) (waits_in t.engine) × IsNumbered (asks_in s.engine) (asks_in t.engine) (fed_in f) (waits_in t.engine) × IsFit t.engine.offering.first (families_offer t.engine.offering.catalogue) (waits_in t.engine)
     × ComesDue s.setup.terms.due (length (owed_on t c)) (length octets) f × IfErr f (λ e. EndsShort s.engine t.engine c e) × TakesLate c moment octets s t f
 
 abbrev pub Serves : (c moment : ℕ) → List ℕ → Serving → Serving → Result ℕ Refusal → Type 0

@@ -13,9 +13,9 @@ use Rattle.lemonrudder.specs.Serves.{IsRefused}
 abbrev pub HasOpened : Serving → Type 0
 HasOpened s = (s.setup.opened ≡ true) ⊎ IsSome (waits_in s.engine)
 
--- it is a new server of what was on offer, within these limits; or memory is short
+-- it is a new server of what was on offer, within these limits
 abbrev pub IsMadeAnew : Limited → Serving → Serving → Result ℕ Refusal → Type 0
-IsMadeAnew new s t r = IsRefused refusal.Memory s t r ⊎ ((r ≡ Ok 0) × (terms : Terms) × (limited terms ≡ new) × (terms.seed ≡ s.setup.terms.seed) × IsNew s.engine.offering.catalogue terms t)
+IsMadeAnew new s t r = (r ≡ Ok 0) × (terms : Terms) × (limited terms ≡ new) × (terms.seed ≡ s.setup.terms.seed) × IsNew s.engine.offering.catalogue terms t
 
 -- a limit gets a value that is allowed, before the first connection
 abbrev pub SetsTo : Option Limited → Serving → Serving → Result ℕ Refusal → Type 0

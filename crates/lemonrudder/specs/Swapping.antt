@@ -12,7 +12,7 @@ use Rattle.lemonrudder.specs.declared.serving.Serving.{Serving}
 use Rattle.lemonrudder.specs.Late.{WhereStays}
 use Rattle.lemonrudder.specs.Serves.{IsIdle, IsRefused, KeepsDue, KeepsNotes, KeepsTickets}
 
--- the objects and families of one go to the other; the bound of the ids of clients, and exceptions that were declared, stay
+-- the objects and families of one go to the other; the bound of the ids of clients, whether the owner is asked first, and exceptions that were declared, stay
 abbrev pub Exchanges : (s t : Serving) → (k l : Cataloguing) → Type 0
 Exchanges s t k l = (t.engine.offering ≡ record s.engine.offering { catalogue = k.families }) × (l ≡ record k { families = s.engine.offering.catalogue })
 

@@ -1,5 +1,5 @@
 -- How the outcome of a request that is parked is told to all who wait for it, one after another.
-use Rattle.std.specs.Prelude.{◌≡◌, ◌==◌, ◌&&◌, ◌||◌, ℕ, Bool, true, false, if◌then◌else◌, List, [], ◌∷◌, ◌++◌, Some, Result}
+use Rattle.std.specs.Prelude.{◌≡◌, ◌⊎◌, ◌==◌, ◌&&◌, ◌||◌, ℕ, Bool, true, false, if◌then◌else◌, List, [], ◌∷◌, ◌++◌, Some, Result}
 use Rattle.ft_log.specs.Holding.{Holding}
 use Rattle.ft_log.specs.Performed.{Performed}
 use Rattle.ft_objects.specs.Families.{families_offer}
@@ -7,6 +7,7 @@ use Rattle.ft_orb.specs.declared.ending.Ending.TheVariants.{Memory}
 use Rattle.ft_orb.specs.declared.error.ServeError.{ServeError}
 use Rattle.ft_orb.specs.declared.parked.Waiter.{Waiter}
 use Rattle.ft_orb.specs.Carrying.{reply_with}
+use Rattle.ft_orb.specs.Engines.{EndsLast}
 use Rattle.ft_orb.specs.Deeds.{Missed, Reached, Told, rest_of}
 use Rattle.ft_orb.specs.History.{Close, Event, Lost}
 use Rattle.ft_orb.specs.Outputs.{after}
@@ -16,7 +17,7 @@ use Rattle.ft_orb.specs.Standing.{note_of}
 use Rattle.lemonrudder.specs.declared.serving.Serving.{Serving}
 use Rattle.lemonrudder.specs.Connected.{Notes, is_there}
 use Rattle.lemonrudder.specs.Replying.{Contexts}
-use Rattle.lemonrudder.specs.Serves.{Closes, KeepsNotes, is_named, leaves_on, owed_on}
+use Rattle.lemonrudder.specs.Serves.{Closes, KeepsEndings, KeepsNotes, is_named, leaves_on, owed_on}
 
 -- what happened, and who waits for outcomes, by the numbers under which requests are parked
 pub record Scene : Type 0 where
@@ -48,6 +49,11 @@ abbrev pub NotesTold : Told → Serving → Serving → Type 0
 NotesTold (Reached w) s t = KeepsNotes s t
 NotesTold (Missed w) s t = Notes w.connection (Some Memory) s.connections t.connections
 
+-- .. and the engine says that it ended last, for that, or that none did, where its reply was there and only its number could not be named
+abbrev pub EndsTold : Told → Serving → Serving → Type 0
+EndsTold (Reached w) s t = KeepsEndings s t
+EndsTold (Missed w) s t = EndsLast t.engine w.connection Memory ⊎ KeepsEndings s t
+
 -- One who waited was told, the first: on its connection, if that is there, the reply is due after what was, and it is named; and the engine
 -- stands for what happened by then.
 pub record Tells (x : Settings) (held : ℕ → Holding) (calls : List Call) (n : ℕ) (carried : Waiter → Contexts) (outcome : Performed) (g : Scene) (d : Told) (s t : Serving) : Type 0 where
@@ -56,6 +62,7 @@ pub record Tells (x : Settings) (held : ℕ → Holding) (calls : List Call) (n 
   pub owed : (c : ℕ) → is_there s.connections c ≡ true → owed_on t c ≡ owed_on s c ++ reply_on c carried outcome d
   pub named : (c : ℕ) → is_named t c ≡ (is_named s c || is_reached c d)
   pub noted : NotesTold d s t
+  pub ended : EndsTold d s t
   pub stays : Stays families_offer x held calls t.engine (after_one x n g d).past (after_one x n g d).waiting
 
 -- a connection is leaving, and nobody waits on it any more
@@ -77,6 +84,6 @@ PartsFrom x c g h s t = (is_left s c ≡ true → (o : Result (Unit {0}) ServeEr
 -- These waited, and were told one after another. After each goodbye is said on its connection, where that is leaving and nobody waits on it
 -- any more: so behind the last reply.
 abbrev pub AreTold : (x : Settings) (held : ℕ → Holding) (calls : List Call) (n : ℕ) (carried : Waiter → Contexts) (outcome : Performed) → List Told → (g h : Scene) → (s t : Serving) → Type 0
-AreTold x held calls n carried outcome [] g h s t = (h ≡ g) × (t.connections ≡ s.connections) × (t.ready ≡ s.ready)
+AreTold x held calls n carried outcome [] g h s t = (h ≡ g) × (t.connections ≡ s.connections) × (t.ready ≡ s.ready) × KeepsEndings s t
 AreTold x held calls n carried outcome (d ∷ later) g h s t = (f : Scene) × (m u : Serving) × Tells x held calls n carried outcome g d s m × PartsFrom x (who d).connection (after_one x n g d) f m u
     × AreTold x held calls n carried outcome later f h u t

@@ -1,5 +1,5 @@
 -- Messages that are written into room of the caller.
-use Rattle.std.specs.Prelude.{◌≡◌, ℕ, ◌%◌, ◌<◌, ◌≤◌, ◌^◌, ℤ, List, [], ◌∷◌, length, Option, Some, None, Result, Ok, Err, ◌⊎◌, ⊤}
+use Rattle.std.specs.Prelude.{◌≡◌, ℕ, ◌+◌, ◌%◌, ◌<◌, ◌≤◌, ◌^◌, ℤ, List, [], ◌∷◌, length, Option, Some, None, Result, Ok, Err, ◌⊎◌, ⊤}
 use Rattle.cdr_core.specs.declared.order.Order.{Order}
 use Rattle.cdr_core.specs.declared.order.Order.TheVariants.{Big}
 use Rattle.cdr_core.specs.Spelling.{IsClean}
@@ -40,10 +40,10 @@ abbrev pub named : {A : Type 0} → Option A → (A → Writing) → Writing
 named (Some x) W = W x
 named None W = refused refusal.Range
 
--- some octets, all of them, unless those that have a count are too many for it
+-- some octets, all of them, unless those that have a count are too many for it, or there is no room; no memory is taken then
 abbrev pub counted : (all octets : List ℕ) → Writing
 counted all octets room new (Err refusal.Long) = (2 ^ 32 ≤ length all) × (new ≡ room)
-counted all octets room new (Err refusal.Memory) = new ≡ room
+counted all octets room new (Err refusal.Memory) = (length all < 2 ^ 32) × (length octets ≤ length room) × (new ≡ room)
 counted all octets room new r = (length all < 2 ^ 32) × Fits octets room new r
 
 -- a message with these octets after its header
@@ -90,11 +90,10 @@ abbrev pub CanStand : Version → ℕ → List ℕ → Type 0
 CanStand v place [] = ⊤
 CanStand v place (x ∷ xs) = CanBegin v place
 
--- only a body that can stand is written
+-- only a body that can stand is written, and no other takes memory
 abbrev pub placed : Type 0 → Writing → Writing
 placed Can W room new (Err refusal.Place) = (¬ Can) × (new ≡ room)
 placed Can W room new (Err refusal.Long) = W room new (Err refusal.Long)
-placed Can W room new (Err refusal.Memory) = W room new (Err refusal.Memory)
 placed Can W room new r = Can × W room new r
 
 -- a Request of this wish: its body begins where the message ends without it
@@ -130,3 +129,9 @@ bare k = Fits (message_octets V10 k Big [])
 -- the data of an FT_REQUEST context
 abbrev pub ft_context : (order : ℕ) → (client : List ℕ) → (retention_id : ℤ) → (expiration : ℕ) → Writing
 ft_context order client retention_id expiration = named (order_named order) (λ o. let octets = ft_octets o client retention_id expiration in checked (IsClean client) refusal.Text (counted octets octets))
+
+-- Words of private functions.
+
+-- how many octets the parts of a Request have
+abbrev pub parts_size : Asking → ℕ
+parts_size a = length a.key.now + length a.operation.now + length a.context.now + length a.body.now

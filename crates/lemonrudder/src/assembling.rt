@@ -7,15 +7,16 @@ ghost use Rattle.lemonrudder.specs.Lends.{head_of};
 
 use crate::layout::Layout;
 use crate::lent::{
-    body_of, client_of, context_of, count_of_contexts, expiration_of, ft_of, id_of, key_of,
-    kind_of, operation_of, part_of, payload_of, place_of, retention_of, size_of, status_of,
-    wish_of,
+    body_of, client_of, context_of, contexts_of, copies_of, count_of_contexts, expiration_of,
+    ft_of, id_of, key_of, kind_of, operation_of, part_of, payload_of, place_of, retention_of,
+    size_of, status_of, wish_of,
 };
 use crate::named::{limits_of, minor_of, number_of_order};
 use crate::refusal::{Refusal, copied};
 use giop_core::{HeaderFault, Message};
 use giop_frames::{Assembler, StreamFault};
 use std::alloc::Global;
+use std::marker::Model;
 
 /// A message: `lr_message`.
 #[derive(Clone, Copy, Debug, Drop)]
@@ -68,11 +69,26 @@ impl MessageHead {
     }
 }
 
-/// An assembler, and the first fault of its stream, as a number.
+/// An assembler, and the first fault of its stream, as a number. Once more than the first service context of the message
+/// was asked for, all are copied, so that each is found by its index.
 #[derive(Drop)]
 pub struct Assembling {
+    alloc: Global,
     assembler: Assembler,
     fault: u64,
+    copies: Option<Vec<(u32, Vec<u8>)>>,
+}
+
+impl Model for Assembling {
+    ghost use Rattle.std.specs.Option.{ForSome};
+    ghost use Rattle.lemonrudder.specs.Assembled.{Assembled};
+    ghost use Rattle.lemonrudder.specs.Lends.{AreThose};
+
+    ghost Value = { Assembled };
+
+    ghost view = { λ a. record { assembler = a.assembler; fault = a.fault } };
+
+    ghost invariant = { λ a. ForSome a.copies (λ v. AreThose a.assembler.message v.items) };
 }
 
 /// The number of a fault.
@@ -127,9 +143,11 @@ fn head_of(message: &Message<'_>) -> MessageHead
 }
 
 impl Assembling {
-    ghost use Rattle.std.specs.Prelude.{◌≡◌, Ok, OnErr};
+    ghost use Rattle.std.specs.Prelude.{◌≡◌, Ok, OnErr, option_map};
+    ghost use Rattle.std.specs.Option.{option_and_then};
+    ghost use Rattle.giop_core.specs.Items.{item_at};
     ghost use Rattle.lemonrudder.specs.Assembles.{IsNew, OnFault, OnFeed};
-    ghost use Rattle.lemonrudder.specs.Lends.{OnContext, OnMessage, OnPart};
+    ghost use Rattle.lemonrudder.specs.Lends.{OnContext, OnMessage, OnPart, context_in, said};
 
     /// An assembler of which nothing has come.
     pub fn new(alloc: Global, message: u32, partials: u32) -> Result<Assembling, Refusal>
@@ -137,8 +155,10 @@ impl Assembling {
     {
         let limits = limits_of(message, partials)?;
         Ok(Assembling {
+            alloc,
             assembler: Assembler::new(alloc, limits),
             fault: 0,
+            copies: None,
         })
     }
 
@@ -146,6 +166,7 @@ impl Assembling {
     pub fn feed(&mut self, octets: &[u8]) -> Result<u64, Refusal>
         ensures { OnFeed octets.now self.old self.new result }
     {
+        self.copies = None;
         match self.assembler.feed(octets) {
             Ok(taken) => Ok(taken as u64),
             Err(fault) => {
@@ -188,13 +209,43 @@ impl Assembling {
         Ok(copied(octets, room))
     }
 
+    /// Copies the service contexts of that message, where there are some and memory for that.
+    fn keep(&mut self)
+        ensures { self.new ≡ self.old }
+    {
+        let Some(message) = self.assembler.message() else {
+            return;
+        };
+        let Some(contexts) = contexts_of(message.content) else {
+            return;
+        };
+        let Ok(copies) = copies_of(self.alloc, contexts) else {
+            return;
+        };
+        self.copies = Some(copies);
+    }
+
+    /// A service context of that message.
+    fn at(&self, index: u32) -> Option<(u32, &[u8])>
+        ensures { option_map item_at result ≡ option_and_then (context_in index) (said self.now) }
+    {
+        if let Some(copies) = &self.copies {
+            let (id, data) = copies.get(index as usize)?;
+            return Some((*id, data.as_slice()));
+        }
+        let message = self.assembler.message()?;
+        context_of(message.content, index)
+    }
+
     /// Copies a service context of that message, and gives its id.
-    pub fn context(&self, index: u32, id: &mut u32, room: &mut [u8]) -> Result<u64, Refusal>
-        ensures copied { OnContext index id.old id.new room.old room.new self.now self.now result }
+    pub fn context(&mut self, index: u32, id: &mut u32, room: &mut [u8]) -> Result<u64, Refusal>
+        ensures copied { OnContext index id.old id.new room.old room.new self.old self.new result }
         ensures refused { OnErr result ((id.new ≡ id.old) × (room.new ≡ room.old)) }
     {
-        let message = self.assembler.message().ok_or(Refusal::None)?;
-        let (found, data) = context_of(message.content, index).ok_or(Refusal::None)?;
+        if index > 0 && self.copies.is_none() {
+            self.keep();
+        }
+        let (found, data) = self.at(index).ok_or(Refusal::None)?;
         *id = found;
         Ok(copied(data, room))
     }

@@ -7,12 +7,12 @@ ghost use Rattle.lemonrudder.specs.Layouts.{laid, written};
 use crate::refusal::copied;
 
 /// How many octets the longest struct has.
-const LONGEST: usize = 96;
+const LONGEST: usize = 104;
 
 /// The front of a struct: the octets of its members, each of which begins where the one before it ends.
 #[derive(Drop)]
 pub struct Layout {
-    octets: [u8; 96],
+    octets: [u8; 104],
     len: usize,
 }
 
@@ -30,7 +30,7 @@ impl Layout {
 
     /// Appends octets.
     fn put(&mut self, octets: &[u8])
-        requires { self.old.len + length octets.now ≤ 96 }
+        requires { self.old.len + length octets.now ≤ 104 }
         ensures written { written self.new ≡ written self.old ++ octets.now }
         ensures len { self.new.len ≡ self.old.len + length octets.now }
     {
@@ -41,7 +41,7 @@ impl Layout {
 
     /// Appends a number of 64 bits.
     pub fn put_u64(&mut self, number: u64)
-        requires { self.old.len + 8 ≤ 96 }
+        requires { self.old.len + 8 ≤ 104 }
         ensures written { written self.new ≡ written self.old ++ to_le_bytes w64 number }
         ensures len { self.new.len ≡ self.old.len + 8 }
     {
@@ -50,7 +50,7 @@ impl Layout {
 
     /// Appends a number of 32 bits.
     pub fn put_u32(&mut self, number: u32)
-        requires { self.old.len + 4 ≤ 96 }
+        requires { self.old.len + 4 ≤ 104 }
         ensures written { written self.new ≡ written self.old ++ to_le_bytes w32 number }
         ensures len { self.new.len ≡ self.old.len + 4 }
     {
@@ -59,7 +59,7 @@ impl Layout {
 
     /// Appends a signed number of 32 bits.
     pub fn put_i32(&mut self, number: i32)
-        requires { self.old.len + 4 ≤ 96 }
+        requires { self.old.len + 4 ≤ 104 }
         ensures written { written self.new ≡ written self.old ++ to_le_bytes w32 (cast_unsigned w32 number) }
         ensures len { self.new.len ≡ self.old.len + 4 }
     {
@@ -68,7 +68,7 @@ impl Layout {
 
     /// Fills a room: with the octets, as many as it has, and with zeros behind.
     pub fn fill(&self, room: &mut [u8])
-        requires { self.now.len ≤ 96 }
+        requires { self.now.len ≤ 104 }
         ensures { room.new ≡ laid (written self.now) room.old }
     {
         room.fill(0);

@@ -1,14 +1,15 @@
 //! What a message has that is lent, of whichever type it is.
 
-ghost use Rattle.std.specs.Prelude.{◌≡◌, length, min, option_map};
+ghost use Rattle.std.specs.Prelude.{◌≡◌, IfOk, length, map, min, option_map};
 ghost use Rattle.giop_core.specs.Ft.{ft_seen};
 ghost use Rattle.giop_core.specs.Items.{contexts_left, item_at};
 ghost use Rattle.giop_core.specs.Lent.{content_of};
-ghost use Rattle.lemonrudder.specs.Lends.{body_in, client_by, context_in, contexts_in, expiration_by, ft_carried, id_in, key_in, kind_number, operation_in, part_in, payload_in, place_in, retention_by, size_in, status_in, wish_in};
+ghost use Rattle.lemonrudder.specs.Lends.{body_in, client_by, context_in, contexts_in, copied_item, expiration_by, ft_carried, id_in, key_in, kind_number, operation_in, part_in, payload_in, place_in, retention_by, size_in, status_in, wish_in};
 
 use crate::named::number_of_wish;
 use crate::refusal::count_of;
 use giop_core::{Content, Contexts, FtField, ft_request};
+use std::alloc::{AllocError, Global};
 
 /// The type of a message, as its header has it.
 pub fn kind_of(content: &Content<'_>) -> u32
@@ -220,6 +221,18 @@ pub fn length_of(contexts: Contexts<'_>) -> u32
         count = count.saturating_add(1);
     }
     count
+}
+
+/// Copies of service contexts.
+pub fn copies_of(alloc: Global, contexts: Contexts<'_>) -> Result<Vec<(u32, Vec<u8>)>, AllocError>
+    ensures { IfOk result (λ v. map copied_item v.items ≡ contexts_left contexts.entry) }
+{
+    let mut copies = Vec::new(alloc);
+    for (id, data) in contexts {
+        let data = Vec::from_slice(alloc, data)?;
+        copies.push((id, data))?;
+    }
+    Ok(copies)
 }
 
 /// A service context, by its index.

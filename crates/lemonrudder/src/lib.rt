@@ -25,6 +25,7 @@ mod refusal;
 mod request;
 mod seed;
 mod serving;
+mod sizes;
 mod slot;
 mod terms;
 mod types;

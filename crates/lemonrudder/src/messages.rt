@@ -1,16 +1,18 @@
 //! Messages that are written into the caller's room.
 
-ghost use Rattle.std.specs.Prelude.{◌≡◌, ◌↔◌, IsTrue, MatchResult, map};
+ghost use Rattle.std.specs.Prelude.{◌≡◌, ◌↔◌, ◌+◌, ◌<◌, ◌≤◌, ◌^◌, IsTrue, MatchResult, length, map};
 ghost use Rattle.cdr_core.specs.Parts.{octet_value};
 ghost use Rattle.cdr_core.specs.Spelling.{IsClean};
 ghost use Rattle.cdr_core.specs.View.{value_of, values_of};
 ghost use Rattle.cdr_core.specs.Writing.{AreWritable};
 ghost use Rattle.giop_core.specs.declared.header.MessageKind.TheVariants as kind;
-ghost use Rattle.giop_core.specs.Written.{CanAsk, Wrote, behind_header};
-ghost use Rattle.lemonrudder.specs.Writes.{CanBegin, IsManner, asked, asked_fields, bare, cancel, ft_context, locate_reply, locate_request, reply, request, said_by};
+ghost use Rattle.giop_core.specs.Written.{CanAsk, Wrote, behind_header, ft_octets};
+ghost use Rattle.lemonrudder.specs.Sizes.{body_end, fields_end, locate_end};
+ghost use Rattle.lemonrudder.specs.Writes.{CanBegin, CanStand, IsManner, asked, asked_fields, bare, cancel, counted, ft_context, locate_reply, locate_request, parts_size, reply, request, said_by};
 
 use crate::named::{order_of, version_of, wish_of};
-use crate::refusal::{Refusal, fitted};
+use crate::refusal::{Refusal, count_of, fitted};
+use crate::sizes::{COUNTED, MOST, behind, check_room, contexts_end, ft_end};
 use cdr_core::{Order, Val, has_no_nul};
 use giop_core::{
     ReplyWish, Target, Version, WriteError, cancel_octets, close_octets, error_octets,
@@ -28,6 +30,17 @@ pub struct Asking<'a> {
     pub context_id: u32,
     pub context: &'a [u8],
     pub body: &'a [u8],
+}
+
+impl Asking<'_> {
+    /// Whether each part has a count, and all of them together.
+    fn is_counted(&self) -> bool
+        ensures { IsTrue result ↔ (parts_size self.now < 2 ^ 32) }
+    {
+        let names = count_of(self.key).saturating_add(count_of(self.operation));
+        let octets = count_of(self.context).saturating_add(count_of(self.body));
+        names.saturating_add(octets) <= u64::from(u32::MAX)
+    }
 }
 
 /// How a message is written.
@@ -76,7 +89,7 @@ impl Manner {
     }
 
     /// Whether a body that is written for a place divisible by 8 can begin at a place: 1.2 has padding before it.
-    fn can_begin(self, place: usize) -> bool
+    fn can_begin(self, place: u64) -> bool
         ensures { IsTrue result ↔ CanBegin self.version place }
     {
         match self.version {
@@ -85,7 +98,54 @@ impl Manner {
         }
     }
 
-    /// Writes a Request of this wish.
+    /// .. or there is none.
+    fn can_stand(self, place: u64, body: &[u8]) -> bool
+        ensures { IsTrue result ↔ CanStand self.version place body.now }
+    {
+        body.is_empty() || self.can_begin(place)
+    }
+
+    /// The place where the fields of a Request end.
+    fn fields_end(self, asking: &Asking<'_>) -> u64
+        requires { parts_size asking.now < 2 ^ 32 }
+        ensures is { result ≡ fields_end self.version (length asking.now.key.now) (length asking.now.operation.now) (length asking.now.context.now) }
+        ensures most { result ≤ 2 ^ 33 }
+    {
+        let key = count_of(asking.key);
+        let operation = count_of(asking.operation) + 1;
+        let context = count_of(asking.context);
+        match self.version {
+            Version::V10 => {
+                let id = behind(contexts_end(12, context), 0);
+                behind(behind(behind(id + 1, key), operation), 0)
+            }
+            Version::V11 => {
+                let id = behind(contexts_end(12, context), 0);
+                behind(behind(behind(id + 4, key), operation), 0)
+            }
+            Version::V12 => contexts_end(behind(behind(22, key), operation), context),
+        }
+    }
+
+    /// The place where a body of so many octets ends, behind fields.
+    #[tactic(auto, using(crate::proofs::Sized::body_none, crate::proofs::Sized::body_some))]
+    fn body_end(self, place: u64, body: u64) -> u64
+        requires { place + body < 2 ^ 62 }
+        ensures { result ≡ body_end self.version place body }
+    {
+        match self.version {
+            Version::V10 | Version::V11 => place + body,
+            Version::V12 => {
+                if body == 0 {
+                    return place;
+                }
+                let padding = (8 - place % 8) % 8;
+                place + padding + body
+            }
+        }
+    }
+
+    /// Writes a Request of this wish. Where it is refused no memory is taken.
     fn ask(
         self,
         alloc: Global,
@@ -97,16 +157,17 @@ impl Manner {
         requires clean { IsClean asking.now.operation.now }
         ensures { asked self.version self.order wish (said_by asking.now) room.old room.new result }
     {
-        let mut out = Vec::new(alloc);
-        self.append(asking, wish, &[], &mut out)?;
-        if asking.body.is_empty() {
-            return fitted(&out, room);
+        if !asking.is_counted() {
+            return Err(Refusal::Long);
         }
-        if !self.can_begin(out.len()) {
+        let place = self.fields_end(asking);
+        if !self.can_stand(place, asking.body) {
             return Err(Refusal::Place);
         }
-        out.clear();
+        let size = self.body_end(place, count_of(asking.body));
+        check_room(MOST, size, room)?;
         let body = values_of_octets(alloc, asking.body)?;
+        let mut out = Vec::new(alloc);
         self.append(asking, wish, &body, &mut out)?;
         fitted(&out, room)
     }
@@ -144,6 +205,7 @@ impl Manner {
         if !self.version.has_reply_status(status) {
             return Err(Refusal::Range);
         }
+        check_room(MOST, 24 + count_of(body), room)?;
         let mut out = Vec::new(alloc);
         write_raw_reply(
             self.version,
@@ -164,6 +226,17 @@ impl Manner {
         fitted(&cancel_octets(self.version, self.order, request_id), room)
     }
 
+    /// How many octets a LocateRequest has to a key of so many.
+    fn locate_end(self, key: u64) -> u64
+        requires { key < 2 ^ 63 }
+        ensures { result ≡ locate_end self.version key }
+    {
+        match self.version {
+            Version::V10 | Version::V11 => 20 + key,
+            Version::V12 => 24 + key,
+        }
+    }
+
     /// Writes a LocateRequest.
     pub fn locate_request(
         self,
@@ -174,6 +247,7 @@ impl Manner {
     ) -> Result<u64, Refusal>
         ensures { locate_request self.version self.order request_id key.now room.old room.new result }
     {
+        check_room(MOST, self.locate_end(count_of(key)), room)?;
         let mut out = Vec::new(alloc);
         let target = Target::Key(key);
         write_locate_request(self.version, self.order, request_id, &target, &mut out)?;
@@ -217,6 +291,24 @@ pub fn error(room: &mut [u8]) -> Result<u64, Refusal>
     fitted(&error_octets(), room)
 }
 
+/// Writes the data of an FT_REQUEST context, of an id without a NUL.
+fn lay_ft(
+    alloc: Global,
+    order: Order,
+    client: &[u8],
+    retention_id: i32,
+    expiration: u64,
+    room: &mut [u8],
+) -> Result<u64, Refusal>
+    requires { IsClean client.now }
+    ensures { let octets = ft_octets order client.now retention_id expiration in counted octets octets room.old room.new result }
+{
+    check_room(COUNTED, ft_end(count_of(client)), room)?;
+    let mut out = Vec::new(alloc);
+    write_ft(order, client, retention_id, expiration, &mut out)?;
+    fitted(&out, room)
+}
+
 /// Writes the data of an FT_REQUEST context.
 pub fn ft(
     alloc: Global,
@@ -232,7 +324,5 @@ pub fn ft(
     if !has_no_nul(client) {
         return Err(Refusal::Text);
     }
-    let mut out = Vec::new(alloc);
-    write_ft(order, client, retention_id, expiration, &mut out)?;
-    fitted(&out, room)
+    lay_ft(alloc, order, client, retention_id, expiration, room)
 }

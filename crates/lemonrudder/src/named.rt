@@ -1,7 +1,7 @@
 //! Numbers of the header, and what they name.
 
 ghost use Rattle.std.specs.Prelude.{◌≡◌};
-ghost use Rattle.lemonrudder.specs.Naming.{GivesLimits, call_numbered, completion_named, minor_number, or_range, order_named, order_number, raw_status_named, system_name_named, truth_named, version_named, wish_named, wish_number};
+ghost use Rattle.lemonrudder.specs.Naming.{GivesLimits, call_numbered, completion_named, minor_number, or_range, order_named, order_number, raw_status_named, system_name_named, system_number, truth_named, version_named, wish_named, wish_number};
 
 use crate::refusal::Refusal;
 use cdr_core::Order;
@@ -167,6 +167,54 @@ pub fn system_name_of(number: u32) -> Result<SystemName, Refusal>
         38 => Ok(SystemName::ActivityRequired),
         39 => Ok(SystemName::ThreadCancelled),
         _ => Err(Refusal::Range),
+    }
+}
+
+/// The number of a system exception.
+pub fn number_of_system_name(name: SystemName) -> u32
+    ensures { result ≡ system_number name }
+{
+    match name {
+        SystemName::Marshal => 0,
+        SystemName::BadContext => 1,
+        SystemName::NoResources => 2,
+        SystemName::BadOperation => 3,
+        SystemName::ObjectNotExist => 4,
+        SystemName::Unknown => 5,
+        SystemName::BadParam => 6,
+        SystemName::NoPermission => 7,
+        SystemName::ImpLimit => 8,
+        SystemName::Internal => 9,
+        SystemName::Transient => 10,
+        SystemName::NoMemory => 11,
+        SystemName::CommFailure => 12,
+        SystemName::InvObjref => 13,
+        SystemName::Initialize => 14,
+        SystemName::NoImplement => 15,
+        SystemName::BadTypecode => 16,
+        SystemName::NoResponse => 17,
+        SystemName::PersistStore => 18,
+        SystemName::BadInvOrder => 19,
+        SystemName::FreeMem => 20,
+        SystemName::InvIdent => 21,
+        SystemName::InvFlag => 22,
+        SystemName::IntfRepos => 23,
+        SystemName::ObjAdapter => 24,
+        SystemName::DataConversion => 25,
+        SystemName::TransactionRequired => 26,
+        SystemName::TransactionRolledback => 27,
+        SystemName::InvalidTransaction => 28,
+        SystemName::InvPolicy => 29,
+        SystemName::CodesetIncompatible => 30,
+        SystemName::Rebind => 31,
+        SystemName::Timeout => 32,
+        SystemName::TransactionUnavailable => 33,
+        SystemName::TransactionMode => 34,
+        SystemName::BadQos => 35,
+        SystemName::InvalidActivity => 36,
+        SystemName::ActivityCompleted => 37,
+        SystemName::ActivityRequired => 38,
+        SystemName::ThreadCancelled => 39,
     }
 }
 

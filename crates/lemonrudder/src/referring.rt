@@ -1,16 +1,20 @@
 //! References to objects.
 
-ghost use Rattle.std.specs.Prelude.{◌≡◌};
-ghost use Rattle.lemonrudder.specs.Makes.{IsProfiled, profile_to};
+ghost use Rattle.std.specs.Prelude.{◌≡◌, ◌↔◌, ◌≤◌, IfErr, IfOk, IsTrue};
+ghost use Rattle.cdr_core.specs.Value as value;
+ghost use Rattle.cdr_core.specs.Writing.{IsWritable};
+ghost use Rattle.lemonrudder.specs.Makes.{IsProfile, profile_to, reference_to};
 ghost use Rattle.lemonrudder.specs.Profiles.{head_of};
 
 use crate::layout::Layout;
 use crate::refusal::{Refusal, copied, count_of, fitted};
+use crate::sizes::{COUNTED, has_room_for_text, profile_end};
+use cdr_core::has_no_nul;
 use ior_core::{
     Component, IiopProfile, Ior, IorError, Profile, TAG_INTERNET_IOP, parse_text, print_text,
     read_iiop, write_iiop,
 };
-use std::alloc::Global;
+use std::alloc::{AllocError, Global};
 
 /// A profile of a reference: `lr_profile`.
 #[derive(Clone, Copy, Debug, Drop)]
@@ -63,14 +67,49 @@ pub struct Address<'a> {
     pub key: &'a [u8],
 }
 
-/// The profile of an address.
-fn profile_of(alloc: Global, address: &Address<'_>) -> Result<Profile, Refusal>
-    ensures { IsProfiled address.now.minor (profile_to address.now.minor address.now.host.now address.now.port address.now.key.now) result }
+/// The minor version of a number.
+fn minor_version(number: u32) -> Result<u8, Refusal>
+    ensures ok { IfOk result (λ n. (n ≡ number) × (number ≤ 2)) }
+    ensures err { IfErr result (λ e. (e ≡ Refusal.Range) × (3 ≤ number)) }
 {
-    let minor = match u8::try_from(address.minor) {
-        Ok(minor) if minor <= 2 => minor,
-        _ => return Err(Refusal::Range),
-    };
+    match u8::try_from(number) {
+        Ok(minor) if minor <= 2 => Ok(minor),
+        _ => Err(Refusal::Range),
+    }
+}
+
+/// Whether octets can be written as a string.
+fn is_text(octets: &[u8]) -> bool
+    ensures { IsTrue result ↔ IsWritable (value.string octets.now) }
+{
+    count_of(octets) < COUNTED && has_no_nul(octets)
+}
+
+impl Address<'_> {
+    /// Whether a profile of the address can be written, of this minor version.
+    fn has_profile(&self, minor: u8) -> bool
+        ensures { IsTrue result ↔ IsWritable (profile_to minor self.now.host.now self.now.port self.now.key.now) }
+    {
+        is_text(self.host) && count_of(self.key) <= COUNTED
+    }
+
+    /// Whether a reference of a type with that profile can be written.
+    fn has_reference(&self, type_id: &[u8], minor: u8) -> bool
+        requires { IsWritable (profile_to minor self.now.host.now self.now.port self.now.key.now) }
+        ensures { IsTrue result ↔ IsWritable (reference_to type_id.now (profile_to minor self.now.host.now self.now.port self.now.key.now)) }
+    {
+        if !is_text(type_id) {
+            return false;
+        }
+        profile_end(minor, count_of(self.host), count_of(self.key)) <= COUNTED
+    }
+}
+
+/// The profile of an address, which can be written.
+fn profile_of(alloc: Global, minor: u8, address: &Address<'_>) -> Result<Profile, AllocError>
+    requires { IsWritable (profile_to minor address.now.host.now address.now.port address.now.key.now) }
+    ensures { IfOk result (λ p. IsProfile (profile_to minor address.now.host.now address.now.port address.now.key.now) p) }
+{
     let profile = IiopProfile {
         minor,
         host: Vec::from_slice(alloc, address.host)?,
@@ -78,9 +117,6 @@ fn profile_of(alloc: Global, address: &Address<'_>) -> Result<Profile, Refusal>
         object_key: Vec::from_slice(alloc, address.key)?,
         components: Vec::new(alloc),
     };
-    if !profile.is_writable() {
-        return Err(Refusal::Text);
-    }
     let mut octets = Vec::new(alloc);
     write_iiop(&profile, &mut octets)?;
     Ok(Profile {
@@ -132,18 +168,22 @@ impl Referring {
         })
     }
 
-    /// A reference of a type to an object at an address.
+    /// A reference of a type to an object at an address. Where it is refused no memory is taken.
     pub fn iiop(alloc: Global, type_id: &[u8], address: &Address<'_>) -> Result<Referring, Refusal>
         ensures { IsAddressed type_id.now address.now.minor (profile_to address.now.minor address.now.host.now address.now.port address.now.key.now) result }
     {
-        let profile = profile_of(alloc, address)?;
+        let minor = minor_version(address.minor)?;
+        if !address.has_profile(minor) {
+            return Err(Refusal::Text);
+        }
+        if !address.has_reference(type_id, minor) {
+            return Err(Refusal::Text);
+        }
+        let profile = profile_of(alloc, minor, address)?;
         let ior = Ior {
             type_id: Vec::from_slice(alloc, type_id)?,
             profiles: vec![in alloc; profile]?,
         };
-        if !ior.is_writable() {
-            return Err(Refusal::Text);
-        }
         Ok(Referring { alloc, ior })
     }
 
@@ -154,6 +194,9 @@ impl Referring {
     {
         if !self.ior.is_writable() {
             return Err(Refusal::Text);
+        }
+        if !has_room_for_text(&self.ior, room) {
+            return Err(Refusal::Room);
         }
         let text = print_text(self.alloc, &self.ior)?;
         fitted(text.as_bytes(), room)

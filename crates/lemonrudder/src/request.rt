@@ -2,13 +2,14 @@
 
 ghost use Rattle.std.specs.Prelude.{◌≡◌};
 ghost use Rattle.giop_core.specs.Items.{contexts_left};
-ghost use Rattle.lemonrudder.specs.Asking.{with_question};
+ghost use Rattle.lemonrudder.specs.Asking.{with_question, with_refusal};
 ghost use Rattle.lemonrudder.specs.Tickets.{ticket_of};
 
 use crate::layout::Layout;
 use crate::lent::length_of;
-use crate::named::{minor_of, number_of_wish};
+use crate::named::{minor_of, number_of_system_name, number_of_wish};
 use crate::refusal::count_of;
+use ft_log::SystemName;
 use giop_core::{FtField, Request, Version, ft_request};
 
 /// A request that waits for its outcome: `lr_request`.
@@ -30,6 +31,8 @@ pub struct RequestHead {
     pub contexts: u32,
     pub client_size: u64,
     pub expiration: u64,
+    pub is_refused: u32,
+    pub refusal: u32,
 }
 
 impl RequestHead {
@@ -57,6 +60,8 @@ impl RequestHead {
             contexts: 0,
             client_size: 0,
             expiration: 0,
+            is_refused: 0,
+            refusal: 0,
         }
     }
 
@@ -81,6 +86,8 @@ impl RequestHead {
         layout.put_u32(self.contexts);
         layout.put_u64(self.client_size);
         layout.put_u64(self.expiration);
+        layout.put_u32(self.is_refused);
+        layout.put_u32(self.refusal);
         layout.fill(room);
     }
 }
@@ -90,6 +97,16 @@ pub fn ticket_of(number: u64) -> u64
     ensures { result ≡ ticket_of number }
 {
     number.saturating_add(1)
+}
+
+/// Says what would refuse a request, if anything would.
+pub fn put_refusal(head: &mut RequestHead, refused: Option<SystemName>)
+    ensures { head.new ≡ with_refusal refused head.old }
+{
+    if let Some(name) = refused {
+        head.is_refused = 1;
+        head.refusal = number_of_system_name(name);
+    }
 }
 
 /// Says the version, the id, the wish, how many service contexts it has and the FT_REQUEST of a request.

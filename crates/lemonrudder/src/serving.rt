@@ -24,7 +24,6 @@ use ft_orb::Engine;
 pub use replying::Said;
 use std::alloc::Global;
 use std::collections::BTreeSet;
-use std::hash::RandomState;
 use taken::taken_of;
 
 /// An engine, and its connections: what is due on each, and those on which octets came due that the caller didn't ask for.
@@ -44,7 +43,7 @@ impl Serving {
     ghost use Rattle.lemonrudder.specs.Serves.{IsFull, IsIdle, OnConnect, OnFarewell, OnFeed, OnGiveUp, OnIsClosed, OnLost, OnOutput, Serves};
 
     /// A server to which nothing has happened.
-    pub fn new(alloc: Global, families: Families, terms: Terms, hasher: RandomState) -> Serving
+    pub fn new(alloc: Global, families: Families, terms: Terms) -> Serving
         ensures { IsNew families terms result }
     {
         let retention = Retention {
@@ -57,9 +56,10 @@ impl Serving {
             terms.limits,
             retention,
             terms.places,
-            hasher,
+            terms.hasher,
         );
         engine.bound_client_ids(terms.longest);
+        engine.ask_first(terms.first);
         Serving {
             engine,
             alloc,
@@ -79,6 +79,9 @@ impl Serving {
     {
         if self.engine.is_asking() {
             return Err(Refusal::Asking);
+        }
+        if !self.engine.is_new(connection) {
+            return Err(Refusal::Connection);
         }
         let was = self.connections.has(connection);
         self.connections.open(connection)?;

@@ -1,16 +1,17 @@
-//! The limits of a server, and the random numbers of its hasher.
+//! The limits of a server, and its hasher.
 
 ghost use Rattle.std.specs.Prelude.{◌≡◌, ◌≤◌, Some, None, IfErr, IfOk};
 ghost use Rattle.lemonrudder.specs.Limited.{limited, set_to, usual};
 
-use crate::named::limits_of;
+use crate::named::{limits_of, truth_of};
 use crate::refusal::Refusal;
 use crate::seed::Seed;
 use crate::serving::Said;
 use ft_orb::Places;
 use giop_frames::Limits;
+use std::hash::RandomState;
 
-/// How much a server takes, keeps and parks, and the random numbers of its hasher.
+/// How much a server takes, keeps and parks, and its hasher, which is made once: making one may fail.
 #[derive(Clone, Copy)]
 pub struct Terms {
     pub limits: Limits,
@@ -21,7 +22,11 @@ pub struct Terms {
     pub due: usize,
     /// How many octets a client's id may have.
     pub longest: usize,
+    /// Whether its owner is asked before a request with FT_REQUEST is refused.
+    pub first: bool,
+    /// The random numbers of the hasher.
     pub seed: Seed,
+    pub hasher: RandomState,
 }
 
 /// What the owner of a server says of it: its terms, whether it has had a connection, and service contexts of replies to come.
@@ -42,7 +47,7 @@ pub fn in_32_bits(value: u64) -> Result<u32, Refusal>
 
 impl Terms {
     /// The limits of a server where nothing is set.
-    pub fn new(seed: Seed) -> Terms
+    pub fn new(seed: Seed, hasher: RandomState) -> Terms
         ensures limited { limited result ≡ usual }
         ensures seed { result.seed ≡ seed }
     {
@@ -60,7 +65,9 @@ impl Terms {
             },
             due: 1_048_576,
             longest: 256,
+            first: false,
             seed,
+            hasher,
         }
     }
 
@@ -80,6 +87,7 @@ impl Terms {
             7 => terms.places.joined = in_32_bits(value)?,
             8 => terms.due = value as usize,
             9 => terms.longest = value as usize,
+            10 => terms.first = truth_of(value)?,
             _ => return Err(Refusal::Range),
         }
         Ok(terms)

@@ -3,7 +3,7 @@
 ghost use Rattle.std.specs.Prelude.{◌≡◌, IsSome, None, Some};
 ghost use Rattle.ft_orb.specs.Engines.{Awaited, waits_in};
 
-use ft_lives::{MemoryStore, Store, Verdict, perform_once};
+use ft_lives::{MemoryStore, Store, Verdict, look_once, perform_once};
 use ft_log::{Retention, SystemName};
 use ft_objects::{Catalogue, Servant};
 use ft_orb::{ConnectError, Engine, Fed, Places, ServeError, Unkept, outcome_len};
@@ -37,23 +37,27 @@ fn answer<C: Catalogue + Drop, S: Store>(
     out: &mut Vec<u8>,
 ) -> Result<(), DurableError>
     requires asking { IsSome (waits_in engine.old) }
-    requires performs { (w : Awaited) → waits_in engine.old ≡ Some w → S.performs w.call }
+    requires performs { (w : Awaited) → waits_in engine.old ≡ Some w → w.refused ≡ None → S.performs w.call }
     ensures idle { waits_in engine.new ≡ None }
 {
     let Some(asked) = engine.asked() else {
         return Ok(());
     };
-    let number = asked.number;
-    let verdict = match asked.ft_request {
-        Some(request) => perform_once(alloc, store, &asked, request, TRIES),
-        None => Verdict::Unknown,
+    let (number, refused) = (asked.number, asked.refused);
+    let verdict = match (asked.ft_request, refused) {
+        (Some(request), None) => perform_once(alloc, store, &asked, request, TRIES),
+        (Some(request), Some(_)) => look_once(alloc, store, &asked, request, TRIES),
+        (None, _) => Verdict::Unknown,
     };
     match verdict {
         Verdict::Answer(outcome) if outcome_len(&outcome).is_some() => {
             engine.tell(number, &outcome, Unkept::Performed, out)?;
         }
         Verdict::Over => engine.decline(number, SystemName::BadContext, 0, out)?,
-        Verdict::Decline => engine.decline(number, SystemName::Transient, 0, out)?,
+        Verdict::Decline => {
+            let name = refused.unwrap_or(SystemName::Transient);
+            engine.decline(number, name, 0, out)?;
+        }
         Verdict::Answer(_) | Verdict::Unknown => {
             engine.give_up(number);
             return Err(DurableError::GivenUp);
@@ -64,7 +68,7 @@ fn answer<C: Catalogue + Drop, S: Store>(
 
 /// Serves one piece on a connection to a new engine, whose owner keeps its outcomes in a store. `offered` says what the
 /// store's servant offers. Whatever engines came before: what is performed for a key is performed once, and a repeat gets
-/// what the store holds.
+/// what the store holds, also where it would be refused by now.
 pub fn live_durably<S: Servant + Drop>(
     alloc: Global,
     hasher: RandomState,
@@ -84,6 +88,7 @@ pub fn live_durably<S: Servant + Drop>(
         joined: 0,
     };
     let mut engine = Engine::new(alloc, offered, Limits::default(), retention, places, hasher);
+    engine.ask_first(true);
     engine.connect(1)?;
     let mut left = piece;
     while !left.is_empty() {

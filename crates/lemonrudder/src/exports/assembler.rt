@@ -11,6 +11,7 @@ ghost use Rattle.lemonrudder.specs.Slots.{held_in};
 use crate::assembling::Assembling;
 use crate::object::Object;
 use crate::opened::open;
+use crate::refusal::Refusal;
 use crate::slot::Slot;
 use std::alloc::Global;
 
@@ -24,6 +25,9 @@ pub extern "C" fn lr_assembler_open(
 ) -> i64
     ensures { OpensMade Object.Assembler (IsNew message_limit partials) (held_in slot.old) (held_in slot.new) result }
 {
+    if !slot.is_empty() {
+        return Refusal::Open.number();
+    }
     match Assembling::new(alloc, message_limit, partials) {
         Ok(assembling) => open(alloc, slot, Object::Assembler(assembling)),
         Err(refusal) => refusal.number(),

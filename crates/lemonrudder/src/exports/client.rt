@@ -13,6 +13,7 @@ ghost use Rattle.lemonrudder.specs.Slots.{held_in};
 use crate::calling::{Calling, Question};
 use crate::object::Object;
 use crate::opened::open;
+use crate::refusal::Refusal;
 use crate::slot::Slot;
 use std::alloc::Global;
 
@@ -21,6 +22,9 @@ use std::alloc::Global;
 pub extern "C" fn lr_client_open(alloc: Global, slot: &mut Slot, id: &[u8]) -> i64
     ensures { OpensMade Object.Client (IsMade id.now) (held_in slot.old) (held_in slot.new) result }
 {
+    if !slot.is_empty() {
+        return Refusal::Open.number();
+    }
     match Calling::new(alloc, id) {
         Ok(calling) => open(alloc, slot, Object::Client(calling)),
         Err(refusal) => refusal.number(),

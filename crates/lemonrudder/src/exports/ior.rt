@@ -12,6 +12,7 @@ ghost use Rattle.lemonrudder.specs.Slots.{held_in};
 use crate::object::Object;
 use crate::opened::open;
 use crate::referring::{Address, Referring};
+use crate::refusal::Refusal;
 use crate::slot::Slot;
 use std::alloc::Global;
 
@@ -20,6 +21,9 @@ use std::alloc::Global;
 pub extern "C" fn lr_ior_parse(alloc: Global, slot: &mut Slot, text: &[u8]) -> i64
     ensures { OpensMade Object.Reference (IsParsed text.now) (held_in slot.old) (held_in slot.new) result }
 {
+    if !slot.is_empty() {
+        return Refusal::Open.number();
+    }
     match Referring::parse(alloc, text) {
         Ok(referring) => open(alloc, slot, Object::Reference(referring)),
         Err(refusal) => refusal.number(),
@@ -39,6 +43,9 @@ pub extern "C" fn lr_ior_iiop(
 ) -> i64
     ensures { OpensMade Object.Reference (IsAddressed type_id.now minor (profile_to minor host.now port key.now)) (held_in slot.old) (held_in slot.new) result }
 {
+    if !slot.is_empty() {
+        return Refusal::Open.number();
+    }
     let address = Address {
         minor,
         host,

@@ -34,7 +34,7 @@ fn host(alloc: Global, object: &mut Object, seed: Seed) -> Result<(), Refusal>
     };
     let hasher = RandomState::new(&seed).map_err(|_| Refusal::Memory)?;
     let families = mem::replace(&mut catalogue.families, no_families(alloc));
-    *object = Object::Server(Serving::new(alloc, families, Terms::new(seed), hasher));
+    *object = Object::Server(Serving::new(alloc, families, Terms::new(seed, hasher)));
     Ok(())
 }
 

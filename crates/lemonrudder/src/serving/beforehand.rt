@@ -11,10 +11,10 @@ ghost use Rattle.ft_log.specs.declared.outcome.RawStatus.{RawStatus as Status};
 ghost use Rattle.cdr_core.specs.declared.order.Order.{Order as ByteOrder};
 ghost use Rattle.ft_orb.specs.Engines.{awaited_lent};
 ghost use Rattle.ft_objects.specs.Interfaces.{interface_of, raise_of, types_of};
-ghost use Rattle.lemonrudder.specs.Outcomes.{IsBody, exception_octets, forms_in, members_in, outcome_read, types_in};
+ghost use Rattle.lemonrudder.specs.Outcomes.{IsBody, MayBeRaised, exception_octets, forms_in, members_in, outcome_read, types_in};
 
 use crate::named::order_of;
-use crate::refusal::{Refusal, copied};
+use crate::refusal::{Refusal, copied, count_of};
 use crate::serving::Serving;
 use crate::serving::questions::Found;
 use crate::types::{are_values, values_of};
@@ -95,7 +95,8 @@ impl Serving {
         self.values(types, order, octets)
     }
 
-    /// The body of the Reply that raises an exception of the operation of a request, whose members are these octets.
+    /// The body of the Reply that raises an exception of the operation of a request, whose members are these octets. Where
+    /// it is surely too long no memory is taken.
     pub(super) fn exception_of(
         &self,
         asked: &Asked<'_>,
@@ -105,6 +106,9 @@ impl Serving {
     ) -> Result<Vec<u8>, Refusal>
         ensures { IsBody id.now (member_types id.now (interface_at self.now (awaited_lent asked.now))) order octets.now result }
     {
+        if !may_be_raised(id, octets) {
+            return Err(Refusal::Outcome);
+        }
         let members = self.members(asked, id, order, octets)?;
         if !can_raise(id, &members) {
             return Err(Refusal::Outcome);
@@ -181,6 +185,14 @@ fn types_of_exception<'s>(raises: &'s [(Vec<u8>, Vec<Ty>)], id: &[u8]) -> Option
         }
     }
     None
+}
+
+/// Whether a repository id and octets of members may make a body that is not too long, which is no shorter than this.
+fn may_be_raised(id: &[u8], octets: &[u8]) -> bool
+    ensures { IsTrue result ↔ MayBeRaised id.now octets.now }
+{
+    let place = (count_of(id) + 5) / 8 * 8;
+    place <= MOST && count_of(octets) <= MOST - place
 }
 
 /// Whether a repository id and members can be written.

@@ -3,7 +3,6 @@
 use crate::cataloguing::{Cataloguing, no_families};
 use crate::refusal::Refusal;
 use crate::serving::Serving;
-use std::hash::RandomState;
 use std::mem;
 
 impl Serving {
@@ -18,10 +17,9 @@ impl Serving {
         if self.setup.opened || self.engine.is_asking() {
             return Err(Refusal::Open);
         }
-        let hasher = RandomState::new(&terms.seed).map_err(|_| Refusal::Memory)?;
         let none = no_families(self.alloc);
         let families = self.engine.change(|families| mem::replace(families, none));
-        *self = Serving::new(self.alloc, families, terms, hasher);
+        *self = Serving::new(self.alloc, families, terms);
         Ok(0)
     }
 

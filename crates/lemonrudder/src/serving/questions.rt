@@ -1,14 +1,15 @@
 //! What is said of the request that waits, and of one that is parked.
 
-ghost use Rattle.std.specs.Prelude.{◌≡◌, IfOk};
+ghost use Rattle.std.specs.Prelude.{◌≡◌, ◌↔◌, ◌<◌, IfOk, IsTrue, length};
 ghost use Rattle.cdr_core.specs.View.{values_of};
+ghost use Rattle.cdr_core.specs.Writing.{octets_of_all};
 ghost use Rattle.ft_orb.specs.Engines.{awaited_lent, waits_in};
 ghost use Rattle.ft_orb.specs.Parking.{parked_in};
 ghost use Rattle.ft_objects.specs.Interfaces.{interface_of};
 ghost use Rattle.lemonrudder.specs.Questions.{TellsIfSome, body_size, client_of};
 
 use crate::refusal::{Refusal, copied, count_of};
-use crate::request::{RequestHead, put_question, ticket_of};
+use crate::request::{RequestHead, put_question, put_refusal, ticket_of};
 use crate::serving::Serving;
 use cdr_core::{Order, Val, are_writable, end_of_list, write_list};
 use ft_objects::{Catalogue, Lookup, boolean_at, octets_at, ulong_at};
@@ -33,7 +34,7 @@ pub(super) struct Called<'e> {
 
 impl Serving {
     ghost use Rattle.lemonrudder.specs.Outcomes.{interface_at};
-    ghost use Rattle.lemonrudder.specs.Questions.{OnAsked, OnPart, TellsBody, is_raw, with_body};
+    ghost use Rattle.lemonrudder.specs.Questions.{OnAsked, OnPart, TellsBody, TellsValues, is_raw, with_body};
     ghost use Rattle.lemonrudder.specs.Tickets.{IsAskedBy, IsFound, IsFoundAt, IsNamedBy, IsParkedOne, called_by, found_parked, named_by, parked_by};
 
     /// The request that waits, where it has this ticket.
@@ -96,10 +97,13 @@ impl Serving {
         Ok(called)
     }
 
-    /// What the operation is that waits.
+    /// What the operation is that waits: raw, where it would be refused.
     pub(super) fn lookup(&self, asked: &Asked<'_>) -> Lookup<'_>
         ensures { interface_of result ≡ interface_at self.now (awaited_lent asked.now) }
     {
+        if asked.refused.is_some() {
+            return Lookup::Raw;
+        }
         self.engine
             .catalogue()
             .interface(asked.object_key, asked.operation)
@@ -143,6 +147,7 @@ impl Serving {
         head.operation_size = count_of(asked.operation);
         put_question(&mut head, version, request);
         self.put_body(&mut head, &asked);
+        put_refusal(&mut head, asked.refused);
         head.tell(room);
         1
     }
@@ -154,8 +159,18 @@ impl Serving {
         if let Some(octets) = octets_at(arguments, 0) {
             return Ok(copied(octets, room));
         }
+        self.values_of_call(arguments, room)
+    }
+
+    /// .. that are values.
+    fn values_of_call(&self, arguments: &[Val], room: &mut [u8]) -> Result<u64, Refusal>
+        ensures { TellsValues (values_of arguments.now) room.old room.new result }
+    {
         if !are_writable(arguments) {
             return Err(Refusal::None);
+        }
+        if !have_octets(arguments) {
+            return Ok(0);
         }
         let mut octets = Vec::new(self.alloc);
         write_list(Order::Big, 0, arguments, &mut octets)?;
@@ -184,6 +199,16 @@ fn body_len(arguments: &[Val]) -> u64
     match octets_at(arguments, 0) {
         Some(octets) => count_of(octets),
         None => end_of_list(0, arguments).unwrap_or(0),
+    }
+}
+
+/// Whether arguments that are values have octets.
+fn have_octets(arguments: &[Val]) -> bool
+    ensures { IsTrue result ↔ (0 < length (octets_of_all Order.Big (values_of arguments.now) 0)) }
+{
+    match end_of_list(0, arguments) {
+        Some(end) => end > 0,
+        None => true,
     }
 }
 

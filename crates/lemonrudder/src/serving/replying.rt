@@ -138,6 +138,9 @@ pub(super) fn reply_carrying(
     ensures asks { asks_in engine.new ≡ asks_in engine.old }
     ensures catalogue { engine.new.offering ≡ engine.old.offering }
     ensures counts { counts_in engine.new ≡ counts_in engine.old }
+    ensures ended { OnOk result (AreEndings engine.old engine.new) }
+    ensures short { (x : Settings) (held : ℕ → Holding) (calls : List Call) (past : List Event) (waiting : ℕ → List Waiter) (w : Waiter) (rest : List Waiter) → Stays families_offer x held calls engine.old past waiting
+        → waiting number ≡ w ∷ rest → IfErr result (λ e. EndsShort engine.old engine.new w.connection e) }
 {
     if engine.can_reply_with(number, contexts) {
         return engine.reply_with(number, contexts, out);

@@ -28,12 +28,12 @@ returns-in_ok-attend_ask-in-Ok-Asks-clause-parked g c = stay-then parked_in told
 pub returns-in_err-attend_ask-in-Ok-Asks-clause-waiting : goal.returns-in_err-attend_ask-in-Ok-Asks-clause-waiting
 returns-in_err-attend_ask-in-Ok-Asks-clause-waiting g c q =
     let place = rw c.in-Ok-Asks.field-0-is at c.in-Ok-Asks.ensures.place in
-    c.in_err-attend_ask-in-Ok-Asks.ensures.waiting _ place.5 q ∙ c.in-Ok-Asks.ensures.waiting q
+    c.in_err-attend_ask-in-Ok-Asks.ensures.waiting _ place.6 q ∙ c.in-Ok-Asks.ensures.waiting q
 
 pub returns-in_ok-attend_ask-in-Ok-Asks-clause-waiting : goal.returns-in_ok-attend_ask-in-Ok-Asks-clause-waiting
 returns-in_ok-attend_ask-in-Ok-Asks-clause-waiting g c q =
     let place = rw c.in-Ok-Asks.field-0-is at c.in-Ok-Asks.ensures.place in
-    c.in_ok-attend_ask-in-Ok-Asks.ensures.waiting _ place.5 q ∙ c.in-Ok-Asks.ensures.waiting q
+    c.in_ok-attend_ask-in-Ok-Asks.ensures.waiting _ place.6 q ∙ c.in-Ok-Asks.ensures.waiting q
 
 pub returns-in_err-attend_ask-in-Ok-Asks-clause-table : goal.returns-in_err-attend_ask-in-Ok-Asks-clause-table
 returns-in_err-attend_ask-in-Ok-Asks-clause-table g c =
@@ -45,7 +45,7 @@ returns-in_err-attend_ask-in-Ok-Asks-clause-table g c =
       so = λ o calls past x agrees.
           let s = rw c.in-Ok-Asks.field-0-is at (c.in-Ok-Asks.ensures.table o calls past x.0) in
           let place = rw c.in-Ok-Asks.field-0-is at c.in-Ok-Asks.ensures.place in
-          let r = asked.2 o calls past c.args.moment (take c.in-Ok-Asks.taken c.args.piece.now) s.written (record { number = s.number; connection = c.args.connection; call = s.call; field = s.field }) s.asks x.1 agrees in
+          let r = asked.2 o calls past c.args.moment (take c.in-Ok-Asks.taken c.args.piece.now) s.written (record { number = s.number; connection = c.args.connection; call = s.call; field = s.field; refused = s.refused }) s.asks x.1 agrees in
           let m = memory-ended (Unit {0}) ℕ c.in_err-attend_ask-in-Ok-Asks.field-0.0 r.1 r.2 in (
             r.0,
             (
@@ -70,7 +70,7 @@ returns-in_ok-attend_ask-in-Ok-Asks-clause-table g c =
       so = λ o calls past x agrees.
           let s = rw c.in-Ok-Asks.field-0-is at (c.in-Ok-Asks.ensures.table o calls past x.0) in
           let place = rw c.in-Ok-Asks.field-0-is at c.in-Ok-Asks.ensures.place in
-          let r = asked.2 o calls past c.args.moment (take c.in-Ok-Asks.taken c.args.piece.now) s.written (record { number = s.number; connection = c.args.connection; call = s.call; field = s.field }) s.asks x.1 agrees in (
+          let r = asked.2 o calls past c.args.moment (take c.in-Ok-Asks.taken c.args.piece.now) s.written (record { number = s.number; connection = c.args.connection; call = s.call; field = s.field; refused = s.refused }) s.asks x.1 agrees in (
             r.0,
             part-asked g.C.Catalogue.offers o c.streams_are_heard.ensures.grows c.streams_are_heard.ensures.stays c.streams_are_heard.ensures.silent past c.args.connection c.args.moment calls (calls_with calls asked.0) c.args.piece.now c.in-Ok-Asks.taken c.feed.new.self c.attend_ask.new.engine
                 c.args.out.now.items c.feed.new.out.items c.attend_ask.new.out.items r.1 place.1 s r.2 r.3,

@@ -1,4 +1,4 @@
-use Rattle.std.proofs.Common.{◌≡◌, ◌∙◌, ◌==◌, true, false, length, Err, inl, ap, sym, subst}
+use Rattle.std.proofs.Common.{◌≡◌, ◌∙◌, ◌==◌, false, length, Err, inl, ap, sym, subst}
 use Rattle.std.proofs.lemmas.Result.{err_from_is_err_and}
 use Rattle.lemonrudder.specs.RawCalls.{ReadsContexts}
 use Rattle.lemonrudder.proofs.ContextLists.{again, at_error, at_fault, count_fails, left_after, read_whole}

@@ -100,7 +100,7 @@ returns-in-Some-next_number-clause-once g c owner calls past h =
 pub returns-in-Some-next_number-clause-place : goal.returns-in-Some-next_number-clause-place
 returns-in-Some-next_number-clause-place g c =
     let further = rw c.in-Ok-Asks.field-0-is at c.in-Ok-Asks.ensures.further in
-    (further.0, further.1, c.in-Some-next_number.number, call_of c.serve_until_ask.new.keeper.slot, field_with c.serve_until_ask.new.keeper.slot.retained, refl)
+    (further.0, further.1, c.in-Some-next_number.number, call_of c.serve_until_ask.new.keeper.slot, field_with c.serve_until_ask.new.keeper.slot.retained, c.serve_until_ask.new.keeper.slot.refused, refl)
 
 pub returns-in-Some-next_number-clause-fit : goal.returns-in-Some-next_number-clause-fit
 returns-in-Some-next_number-clause-fit g c = rw c.in-Ok-Asks.field-0-is at c.in-Ok-Asks.ensures.fit

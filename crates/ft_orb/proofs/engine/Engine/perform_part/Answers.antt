@@ -32,7 +32,7 @@ returns-in_ok-handled-in-Asks-clause-table g c made past st =
     let place = rw c.in-Asks.is at c.in_ok-feed.ensures.place in
     part-performed g.S.Servant.meaning made c.streams_are_heard.ensures.grows c.streams_are_heard.ensures.stays c.streams_are_heard.ensures.silent past c.args.connection c.args.moment calls c.args.piece.now c.in-Asks.taken c.in_ok-handled-in-Asks.handled c.feed.new.self c.perform_asked.new.self
     c.args.out.now.items c.feed.new.out.items c.perform_asked.new.out.items place.1 s
-    (c.in_ok-handled-in-Asks.ensures.table made calls past c.args.moment (take c.in-Asks.taken c.args.piece.now) s.written (record { number = s.number; connection = c.args.connection; call = s.call; field = s.field }) s.asks (ap (λ o. o.catalogue) c.feed.ensures.catalogue ∙ r.1))
+    (c.in_ok-handled-in-Asks.ensures.table made calls past c.args.moment (take c.in-Asks.taken c.args.piece.now) s.written (record { number = s.number; connection = c.args.connection; call = s.call; field = s.field; refused = s.refused }) s.asks (ap (λ o. o.catalogue) c.feed.ensures.catalogue ∙ r.1))
 
 pub returns-in_err-handled-in-Asks-clause-table : goal.returns-in_err-handled-in-Asks-clause-table
 returns-in_err-handled-in-Asks-clause-table g c made past st =
@@ -43,7 +43,7 @@ returns-in_err-handled-in-Asks-clause-table g c made past st =
     let place = rw c.in-Asks.is at c.in_ok-feed.ensures.place in
     rw (p.1, p.2) (part-unperformed g.S.Servant.meaning made c.streams_are_heard.ensures.grows c.streams_are_heard.ensures.stays c.streams_are_heard.ensures.silent past c.args.connection c.args.moment calls c.args.piece.now c.in-Asks.taken c.in_err-handled-in-Asks.field-0.0 c.feed.new.self c.perform_asked.new.self
     c.args.out.now.items c.feed.new.out.items c.perform_asked.new.out.items place.1 s
-    (c.in_err-handled-in-Asks.ensures.table made calls past c.args.moment (take c.in-Asks.taken c.args.piece.now) s.written (record { number = s.number; connection = c.args.connection; call = s.call; field = s.field }) s.asks (ap (λ o. o.catalogue) c.feed.ensures.catalogue ∙ r.1)))
+    (c.in_err-handled-in-Asks.ensures.table made calls past c.args.moment (take c.in-Asks.taken c.args.piece.now) s.written (record { number = s.number; connection = c.args.connection; call = s.call; field = s.field; refused = s.refused }) s.asks (ap (λ o. o.catalogue) c.feed.ensures.catalogue ∙ r.1)))
 
 -- a servant's outcomes are known: nothing repeats what is parked
 pub returns-in-Repeats-clause-table : goal.returns-in-Repeats-clause-table

@@ -2,7 +2,7 @@ use Rattle.std.proofs.Common.{◌≡◌, ◌≤◌, ◌-◌, None, List, length}
 use Rattle.ft_orb.specs.Engines.{shown_in, waits_in}
 use Rattle.ft_orb.specs.History as history
 use Rattle.ft_orb.specs.Outputs.{Made}
-use Rattle.ft_orb.specs.Performing.{IsDoneTo}
+use Rattle.ft_orb.specs.Performing.{IsDoneTo, IsFree}
 use Rattle.ft_orb.specs.Standing.{Stands}
 use Rattle.ft_orb.proofs.engine.Engine.perform_piece.Given as goal
 
@@ -12,7 +12,7 @@ invariant-loop-part g l = record {
   within : l.done.taken ≤ length l.piece;
   few : l.done.handled ≤ l.done.taken;
   idle : waits_in l.self ≡ None;
-  free : l.self.offering.longest ≡ None;
+  free : IsFree l.self;
   goes : (made : Made g.row.S.Denot) (past : List history.Event) → Stands g.S.Servant.meaning made (shown_in l.fn.self) past → IsDoneTo g.S.Servant.meaning made past l.connection l.moment l.piece l.done (shown_in l.self) l.fn.out.items l.out.items;
 }
 

@@ -1,11 +1,10 @@
 use Rattle.std.proofs.Common.{◌∙◌, ap, option_map, sym}
-use Rattle.cdr_core.specs.View.{forms_of}
 use Rattle.ft_orb.specs.Engines.{awaited_lent}
 use Rattle.ft_objects.specs.Interfaces.{AreValidTypes, types_of}
 use Rattle.ft_objects.specs.facts.Promises.{families_offer-is}
 use Rattle.lemonrudder.specs.Outcomes.{interface_at, result_types, types_in}
 use Rattle.lemonrudder.proofs.Handing.{results-are, results-none}
-use Rattle.lemonrudder.proofs.Raising.{none-typed, typed-valid}
+use Rattle.lemonrudder.proofs.Raising.{asked-valid, none-typed, typed-valid}
 use Rattle.lemonrudder.proofs.serving.Serving.are_results.Goals as goal
 
 pub are_values-requires : goal.are_values-requires
@@ -13,7 +12,7 @@ are_values-requires c =
     let s = c.args.self.now in
     let w = awaited_lent c.args.asked.now in
     let t = types_of c.in-Some.signature.now in
-    let promised : AreValidTypes t = typed-valid (interface_at s w) t (ap types_in (sym c.lookup.ensures) ∙ sym c.signature_of.ensures ∙ ap (option_map (λ x. types_of x.now)) c.in-Some.is) ((families_offer-is s.engine.offering.catalogue).valid w.call.object_key w.call.operation) in
+    let promised : AreValidTypes t = typed-valid (interface_at s w) t (ap types_in (sym c.lookup.ensures) ∙ sym c.signature_of.ensures ∙ ap (option_map (λ x. types_of x.now)) c.in-Some.is) (asked-valid w.refused _ ((families_offer-is s.engine.offering.catalogue).valid w.call.object_key w.call.operation)) in
     record { valid = rw c.deref.ensures.value promised.1 }
 
 pub returns-in-Some : goal.returns-in-Some

@@ -4,7 +4,7 @@ use Rattle.giop_core.specs.Items.{contexts_left}
 use Rattle.giop_link.specs.Hearing.{Question}
 use Rattle.ft_orb.specs.Engines.{Awaited, awaited_lent}
 use Rattle.lemonrudder.specs.declared.request.RequestHead.{RequestHead}
-use Rattle.lemonrudder.specs.Asking.{with_question}
+use Rattle.lemonrudder.specs.Asking.{with_question, with_refusal}
 use Rattle.lemonrudder.specs.Layouts.{laid, octets_of_request}
 use Rattle.lemonrudder.specs.Outcomes.{interface_at}
 use Rattle.lemonrudder.specs.Questions.{head_of, with_body}
@@ -34,7 +34,8 @@ returns-clause-does c =
     let r = c.in-Request.request in
     let laid_out = c.tell.ensures in
     let base = base-is c.none-head.result c.ticket_of.result c.in-Some.asked.connection c.count_of.result c.count_of-2.result _ _ _ c.none-head.ensures c.ticket_of.ensures c.count_of.ensures c.count_of-2.ensures in
-    let told = c.put_body.ensures ∙ ap (with_body (interface_at s x) x.call.arguments) (c.put_question.ensures ∙ ap (with_question v r.request_id r.reply (contexts_left r.contexts)) base) in (
+    let whole = c.put_body.ensures ∙ ap (with_body (interface_at s x) x.call.arguments) (c.put_question.ensures ∙ ap (with_question v r.request_id r.reply (contexts_left r.contexts)) base) in
+    let told = c.put_refusal.ensures ∙ ap (with_refusal x.refused) whole in (
       refl,
       λ idle. absurd (none-some x (sym (here ∙ idle))),
       λ s' held calls past waiting moment octets written w a.

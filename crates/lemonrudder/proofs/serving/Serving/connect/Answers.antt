@@ -1,11 +1,42 @@
-use Rattle.std.proofs.Common.{Ok, Err, ap, inr, refl}
+use Rattle.std.proofs.Common.{Ok, Err, ◌∙◌, ap, inl, inr, refl, sym}
+use Rattle.ft_orb.specs.declared.error.ConnectError.TheVariants.{NotNew}
 use Rattle.lemonrudder.proofs.Asked.{opened-owed, opened-undone}
 use Rattle.lemonrudder.proofs.Idling.{not_both, not_so}
 use Rattle.lemonrudder.proofs.Noting.{undone-noted}
+use Rattle.lemonrudder.proofs.Written.{from_err}
 use Rattle.lemonrudder.proofs.serving.Serving.connect.Goals as goal
 
 pub returns-then-is_asking : goal.returns-then-is_asking
 returns-then-is_asking c = (λ some. (refl, refl), λ idle. absurd (not_both _ (c.is_asking.ensures.0 c.if-is_asking.true) idle))
+
+pub returns-then-not-is_new : goal.returns-then-not-is_new
+returns-then-not-is_new c = (
+  λ some. absurd (not_so c.if-is_asking.false (c.is_asking.ensures.1 some)),
+  λ idle. inr (
+    Err NotNew,
+    refl,
+    idle,
+    λ q. (refl, refl),
+    refl,
+    refl,
+    refl,
+    (refl, λ q. (refl, refl), refl),
+    λ x held calls past waiting h. (c.is_new.ensures.late x held calls past waiting h).1 c.if-not-is_new.true,
+    λ q. (refl, refl),
+    λ q. refl,
+  ),
+)
+
+pub returns-in_err-open : goal.returns-in_err-open
+returns-in_err-open c = (
+  λ some. absurd (not_so c.if-is_asking.false (c.is_asking.ensures.1 some)),
+  λ idle. inl (
+    from_err _ _ c.from_residual.ensures.1 ∙ ap Err c.in_err-open.ensures.why.0,
+    c.in_err-open.ensures.why.1,
+    λ x held calls past waiting h. sym (c.is_new.ensures.late x held calls past waiting h).0 ∙ c.if-not-is_new.false,
+    (refl, refl, (c.in_err-open.ensures.err, refl), c.open.ensures.noted),
+  ),
+)
 
 pub returns-in-Ok : goal.returns-in-Ok
 returns-in-Ok c =

@@ -1,6 +1,4 @@
-use Rattle.std.proofs.Common.{refl, ◌∙◌, sym, arith}
-use Rattle.std.proofs.lemmas.Grind.{common_steps}
-use Rattle.lemonrudder.proofs.Asked.{idle-by}
+use Rattle.std.proofs.Common.{refl, ◌∙◌, sym}
 use Rattle.lemonrudder.proofs.Idling.{not_both, not_so}
 use Rattle.lemonrudder.proofs.serving.Serving.farewell.Goals as goal
 

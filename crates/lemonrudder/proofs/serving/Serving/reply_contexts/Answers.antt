@@ -1,4 +1,4 @@
-use Rattle.std.proofs.Common.{◌∙◌, ap, Ok, Err, refl, sym}
+use Rattle.std.proofs.Common.{◌∙◌, ap, Err, refl, sym}
 use Rattle.std.proofs.lemmas.Result.{err_from_is_err_and}
 use Rattle.ft_orb.specs.Engines.{awaited_lent, waits_in}
 use Rattle.ft_orb.specs.Parking.{parked_in}

@@ -9,4 +9,4 @@ invariant_of-self c = record { asked = asked-idle c.args.self.now.connections c.
 
 pub returns : goal.returns
 returns c =
-    set_anew _ _ _ _ _ c.in_ok-terms.ensures.ok.0 (not_so c.if-self.false) (λ some. not_so c.if-is_asking.false (c.is_asking.ensures.1 some)) c.in_ok-terms.ensures.ok.1 (search rules) c.new-2.ensures
+    set_anew _ _ _ _ _ c.in_ok-terms.ensures.ok.0 (not_so c.if-self.false) (λ some. not_so c.if-is_asking.false (c.is_asking.ensures.1 some)) c.in_ok-terms.ensures.ok.1 (search rules) c.new.ensures

@@ -22,6 +22,6 @@ returns c = (
       let outcome = performed_in c.args.outcome in
       let carried = λ (w : Waiter). carried_by said (Some w.asker) (Some outcome) in
       let so = c.tell_all.ensures.late x held calls past waiting outcome carried (carries-are said outcome) (c.settle.ensures.late x held calls past waiting st) c.settle.ensures.told in
-      (so.i, so.taken, so.was, so.told, so.last, (carried, carries-are said outcome, told-from x held calls c.args.number carried outcome so.told _ so.last c.args.self.now _ c.tell_all.new.self refl refl so.are_told), so.none, so.stays)),
+      (so.i, so.taken, so.was, so.told, so.last, (carried, carries-are said outcome, told-from x held calls c.args.number carried outcome so.told _ so.last c.args.self.now _ c.tell_all.new.self refl refl c.settle.ensures.ended so.are_told), so.none, so.stays)),
   c.tell_all.ensures.counts ∙ c.settle.ensures.counted,
 )

@@ -13,7 +13,7 @@ returns c =
       λ some. absurd (not_so c.if-is_asking.false (c.is_asking.ensures.1 some)),
       λ idle. (
         refl,
-        swapped_with _ _ _ _ now.bound (search rules) (search rules),
+        swapped_with _ _ _ _ now.bound now.first (search rules) (search rules),
         (now.idle, refl, ((λ x. (refl, refl)), refl), (λ x. (refl, refl)), now.asks, now.parked, now.waiting, now.counts, now.ended),
         now.late,
       ),

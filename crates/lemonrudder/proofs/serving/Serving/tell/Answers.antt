@@ -1,4 +1,4 @@
-use Rattle.std.proofs.Common.{◌≡◌, ◌==◌, ◌||◌, if◌then◌else◌, ◌∙◌, ℕ, true, false, List, [], ◌∷◌, ◌++◌, Some, drop, map, append-nil, refl, sym, ap, subst, is_err}
+use Rattle.std.proofs.Common.{inr, ◌≡◌, ◌==◌, ◌||◌, if◌then◌else◌, ◌∙◌, ℕ, true, false, List, [], ◌∷◌, ◌++◌, Some, drop, map, append-nil, refl, sym, ap, subst, is_err}
 use Rattle.std.specs.BTreeMap.{is_at}
 use Rattle.std.specs.BTreeSet.{contains}
 use Rattle.std.specs.List.{list_any}
@@ -15,7 +15,7 @@ use Rattle.giop_core.specs.Items.{item_at}
 use Rattle.lemonrudder.proofs.Carrying.{due-is, sent-so, when-made, when-missed}
 use Rattle.lemonrudder.proofs.Noting.{noted-noted, notes-after}
 use Rattle.lemonrudder.proofs.Owing.{grows}
-use Rattle.lemonrudder.proofs.Tellings.{cut-back, due-after, due-kept, named-with, on-err, on-ok, reply-made, reply-missed, tells-missed, tells-reached}
+use Rattle.lemonrudder.proofs.Tellings.{cut-back, due-after, due-kept, missed-ends, named-with, on-err, on-ok, reached-ends, reply-made, reply-missed, tells-missed, tells-reached}
 use Rattle.lemonrudder.proofs.serving.Serving.tell.Goals as goal
 
 pub returns-then-is_err-clause-late : goal.returns-then-is_err-clause-late
@@ -33,7 +33,8 @@ returns-then-is_err-clause-late c x held calls past waiting outcome carried w re
           (λ q there. (c.note.ensures.same q).1 ∙ due-kept c.args.connection q s.connections c.take-due.new.self c.put.new.self d (record d { octets = c.reply_carrying.new.out }) c.take-due.ensures.owed c.take-due.ensures.only c.put.ensures.owed c.put.ensures.only (ap (drop d.taken) same) there)
           (λ q. refl)
           (subst (λ y. Notes y (Some Memory) s.connections c.note.new.self) (sym on)
-          (notes-after c.args.connection (Some Memory) s.connections c.put.new.self c.note.new.self (c.put.ensures.only.0 ∙ c.take-due.ensures.only.0) (noted-noted s.connections c.take-due.new.self c.put.new.self c.take-due.ensures.noted c.put.ensures.noted) c.note.ensures.noted)),
+          (notes-after c.args.connection (Some Memory) s.connections c.put.new.self c.note.new.self (c.put.ensures.only.0 ∙ c.take-due.ensures.only.0) (noted-noted s.connections c.take-due.new.self c.put.new.self c.take-due.ensures.noted c.put.ensures.noted) c.note.ensures.noted))
+          (missed-ends c.reply_carrying.result s.engine c.reply_carrying.new.engine w.connection missed (c.reply_carrying.ensures.short x held calls past waiting w rest st is)),
     )
 
 pub returns-then-is_ok-clause-late : goal.returns-then-is_ok-clause-late
@@ -55,7 +56,8 @@ returns-then-is_ok-clause-late c x held calls past waiting outcome carried w res
           (λ q at. subst (λ y. owed_in c.put-then-is_ok.new.self q ≡ owed_in s.connections q ++ (if y == q then reply_with (carried w) w.asker outcome else [])) (sym on)
           (due-after c.args.connection q (reply_with (carried w) w.asker outcome) s.connections c.take-due.new.self c.put-then-is_ok.new.self d (record d { octets = c.reply_carrying.new.out }) c.take-due.ensures.owed c.take-due.ensures.only c.put-then-is_ok.ensures.owed c.put-then-is_ok.ensures.only grown at))
           (λ q. subst (λ y. contains nat_cmp c.insert.new.self q ≡ (contains nat_cmp s.ready q || (y == q))) (sym on) (named-with c.args.connection q s.ready c.insert.new.self (on-ok c.insert.result _ ok updates)))
-          (noted-noted s.connections c.take-due.new.self c.put-then-is_ok.new.self c.take-due.ensures.noted c.put-then-is_ok.ensures.noted),
+          (noted-noted s.connections c.take-due.new.self c.put-then-is_ok.new.self c.take-due.ensures.noted c.put-then-is_ok.ensures.noted)
+          (reached-ends c.reply_carrying.result made c.reply_carrying.ensures.ended),
     )
 
 pub returns-clause-late : goal.returns-clause-late
@@ -76,7 +78,8 @@ returns-clause-late c x held calls past waiting outcome carried w rest car st te
           (λ q at. (c.note-2.ensures.same q).1 ∙ due-kept c.args.connection q s.connections c.take-due.new.self c.put-2.new.self d (record d { octets = c.truncate.new.self }) c.take-due.ensures.owed c.take-due.ensures.only c.put-2.ensures.owed c.put-2.ensures.only (ap (drop d.taken) cut) at)
           (λ q. ap (λ (l : List ℕ). list_any (is_at (nat_cmp q)) l) (on-err c.insert.result _ (sym c.is_ok.ensures.value ∙ c.if-is_ok.false) c.insert.ensures.err))
           (subst (λ y. Notes y (Some Memory) s.connections c.note-2.new.self) (sym on)
-          (notes-after c.args.connection (Some Memory) s.connections c.put-2.new.self c.note-2.new.self (c.put-2.ensures.only.0 ∙ c.take-due.ensures.only.0) (noted-noted s.connections c.take-due.new.self c.put-2.new.self c.take-due.ensures.noted c.put-2.ensures.noted) c.note-2.ensures.noted)),
+          (notes-after c.args.connection (Some Memory) s.connections c.put-2.new.self c.note-2.new.self (c.put-2.ensures.only.0 ∙ c.take-due.ensures.only.0) (noted-noted s.connections c.take-due.new.self c.put-2.new.self c.take-due.ensures.noted c.put-2.ensures.noted) c.note-2.ensures.noted))
+          (inr (λ q. c.lost.ensures.ended q ∙ reached-ends c.reply_carrying.result made c.reply_carrying.ensures.ended q)),
     )
 
 pub invariant_of-self : goal.invariant_of-self

@@ -16,7 +16,7 @@ loop-connection-init c = record {
   counts = refl;
   telling = refl;
   others = λ q apart. (refl, refl);
-  told = λ x held calls past waiting outcome carried car st telling. ([], record { past = past; waiting = waiting }, (refl, refl, refl), st);
+  told = λ x held calls past waiting outcome carried car st telling. ([], record { past = past; waiting = waiting }, (refl, refl, refl, λ c. refl), st);
 }
 
 pub loop-connection-smaller : goal.loop-connection-smaller
@@ -49,14 +49,14 @@ loop-connection-preserved c =
           (p.0 ∙ a.0 ∙ b.0 ∙ x.0, p.1 ∙ a.1 ∙ b.1 ∙ x.1);
       told = λ x held calls past waiting outcome carried car st telling.
           let so = inv.told x held calls past waiting outcome carried car st telling in
-          told-next x held calls c.args.number carried outcome so.0 _ so.1 c.args.self.now c.loop-connection.self _ c.tell.new.self c.finish.new.self refl refl so.2 so.3 c.in-Some.connection (inv.telling ∙ telling) (c.in-Some.ensures.late x) ((c.in-Some.ensures.parked c.args.number).1) (λ held' calls' past' waiting' w rest st' telling' is on. c.tell.ensures.late x held' calls' past' waiting' outcome carried w rest car st' telling' is on) c.finish.ensures.parts;
+          told-next x held calls c.args.number carried outcome so.0 _ so.1 c.args.self.now c.loop-connection.self _ c.tell.new.self c.finish.new.self refl refl c.due.ensures.ended so.2 so.3 c.in-Some.connection (inv.telling ∙ telling) (c.in-Some.ensures.late x) ((c.in-Some.ensures.parked c.args.number).1) (λ held' calls' past' waiting' w rest st' telling' is on. c.tell.ensures.late x held' calls' past' waiting' outcome carried w rest car st' telling' is on) c.finish.ensures.parts;
     }
 
 pub returns-clause-late : goal.returns-clause-late
 returns-clause-late c x held calls past waiting outcome carried car st telling =
     let inv = c.loop-connection.invariant in
     let so = inv.told x held calls past waiting outcome carried car st telling in
-    tells-all x held calls c.args.number carried outcome so.0 _ so.1 c.args.self.now c.loop-connection.self _ refl refl so.2 so.3 (inv.telling ∙ telling) (c.in_default.ensures.late x)
+    tells-all x held calls c.args.number carried outcome so.0 _ so.1 c.args.self.now c.loop-connection.self _ refl refl c.due.ensures.ended so.2 so.3 (inv.telling ∙ telling) (c.in_default.ensures.late x)
 
 pub returns-clause-done : goal.returns-clause-done
 returns-clause-done c some = c.in_default.ensures.done (subst (λ (o : Option Performed). IsSome o) (sym c.loop-connection.invariant.telling) some) refl

@@ -34,7 +34,7 @@ returns c = (
           y.was,
           so.told,
           so.last,
-          told-from x held calls c.args.number (λ w. []) (performed_in c.args.outcome) so.told _ so.last c.args.self.now _ c.tell_all.new.self refl refl so.are_told,
+          told-from x held calls c.args.number (λ w. []) (performed_in c.args.outcome) so.told _ so.last c.args.self.now _ c.tell_all.new.self refl refl c.tell_parked.ensures.ended so.are_told,
           so.none,
           subst (λ (i : ℕ). Stays families_offer x (put_at i (known (performed_in c.args.outcome)) held) calls c.tell_all.new.self.engine so.last.past so.last.waiting) same so.stays,
         )),

@@ -1,4 +1,4 @@
-use Rattle.std.proofs.Common.{◌∙◌, inr, map, refl}
+use Rattle.std.proofs.Common.{inr, map, refl}
 use Rattle.std.proofs.lemmas.Result.{err_from_is_err_and}
 use Rattle.giop_core.specs.Items.{item_at}
 use Rattle.lemonrudder.proofs.Handing.{said-is, unsaid-by}
