@@ -1,16 +1,15 @@
-"""A client and a server of GIOP over sockets of 127.0.0.1, whose octets are those of tests/giop.py."""
+"""A client of GIOP over sockets of 127.0.0.1, whose octets are those of tests/giop.py."""
 from __future__ import annotations
 
 import socket
 import struct
-import threading
 import time
 from collections.abc import Callable
 from typing import Any
 
 from tests import giop
 from tests.cdr import Octets
-from tests.giop import Body, Message, Reference
+from tests.giop import Body, Message
 
 SECONDS = 20
 
@@ -132,106 +131,3 @@ def ask(port: int, octets: bytes, wanted: bytes) -> None:
     with Peer(port) as peer:
         peer.tell(octets)
         peer.wants(wanted)
-
-
-# ---- a server ----
-
-class Behind:
-    """A server that performs whatever it is asked, each time that it is asked, and remembers it.
-
-    It takes one connection after another. `manners` says what it does with the next requests; after these, and where it
-    is empty, it returns the number of requests that it has performed, as a long long.
-    """
-
-    def __init__(self) -> None:
-        self.listener = socket.create_server(("127.0.0.1", 0))
-        self.port = self.listener.getsockname()[1]
-        self.performed: list[Message] = []
-        self.manners: list[str] = []
-        self.may_go_on = threading.Event()
-        self.connections = 0
-        self.peer: socket.socket | None = None
-        self.thread = threading.Thread(target=self.serve, daemon=True)
-        self.thread.start()
-
-    def __enter__(self) -> Behind:
-        return self
-
-    def __exit__(self, *_: object) -> None:
-        self.may_go_on.set()
-        self.hush()
-
-    def hush(self) -> None:
-        """Stops listening, and ends the connection."""
-        for end in (self.listener, self.peer):
-            if end is not None:
-                try:
-                    end.shutdown(socket.SHUT_RDWR)
-                except OSError:
-                    pass
-                end.close()
-        self.thread.join(SECONDS)
-
-    def reference(self, key: bytes = b"k\0\xff", minor: int = 2) -> Reference:
-        return Reference(b"IDL:Behind:1.0", minor, b"127.0.0.1", self.port, key)
-
-    def serve(self) -> None:
-        while True:
-            try:
-                self.peer, _ = self.listener.accept()
-            except OSError:
-                return
-            self.connections += 1
-            try:
-                while self.answer(self.peer):
-                    pass
-            except OSError:
-                pass
-            self.peer.close()
-
-    def answer(self, peer: socket.socket) -> bool:
-        """Takes a request, and answers it; False at the end of the connection."""
-        header = peer.recv(giop.HEADER, socket.MSG_WAITALL)
-        if len(header) < giop.HEADER:
-            return False
-        left = giop.size_of(header) - giop.HEADER
-        came = giop.read(header + (peer.recv(left, socket.MSG_WAITALL) if left else b""))
-        manner = self.manners.pop(0) if self.manners else "returns"
-        if manner == "closes":
-            peer.sendall(giop.CLOSE_CONNECTION)
-            return False
-        self.performed.append(came)
-        if manner == "waits":
-            self.may_go_on.wait(SECONDS)
-        if manner == "lost" or came.wish == giop.NONE:
-            return manner != "lost"
-        peer.sendall(self.octets_of(manner, came))
-        return manner not in ("error", "returns and closes")
-
-    def octets_of(self, manner: str, came: Message) -> bytes:
-        """What it sends in answer to a request."""
-        body = number_body(len(self.performed))
-        whole = giop.reply(came.request_id, body, order=came.order, minor=came.minor)
-        if manner == "raises":
-            return giop.reply(came.request_id, lambda out: out.string("IDL:Wrong:1.0"), status=giop.USER_EXCEPTION)
-        if manner == "forwards":
-            return giop.reply(came.request_id, status=giop.LOCATION_FORWARD)
-        if manner == "stands elsewhere":
-            return giop.reply(came.request_id, lambda out: out.ulong(7), minor=0, contexts=[(99, b"1234")])
-        if manner == "another":
-            return giop.reply(came.request_id + 1, body)
-        if manner == "error":
-            return giop.MESSAGE_ERROR
-        if manner == "long":
-            return in_fragments(giop.reply(came.request_id, long_octets()))
-        return whole + (giop.CLOSE_CONNECTION if manner == "returns and closes" else b"")
-
-
-def long_octets() -> bytes:
-    """The body of a long reply."""
-    return bytes(index % 251 for index in range(300_000))
-
-
-def in_fragments(octets: bytes, size: int = 4096) -> bytes:
-    """A message of 1.2 cut into fragments, each but the last of a size divisible by 8 (GIOP 9.4.9)."""
-    return b"".join(giop.cut(octets, [size - 4] + [size] * (len(octets) // size)))

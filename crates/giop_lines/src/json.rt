@@ -1,55 +1,23 @@
 //! The lines of messages as JSON, an object each.
 
-use crate::moments::time_of;
-use crate::reports::{direction_name, put_object};
+use crate::caught::Caught;
+use crate::json_forwards::{ForwardObject, forward_object};
+use crate::json_parts::{
+    ContextObject, ExceptionObject, FtObject, TargetObject, context_objects, ft_object,
+    system_object, target_object, user_object,
+};
+use crate::objects::Objects;
+use crate::printing::Printer;
+use crate::reports::{caught_time, direction_name, frame_of, put_object};
 use crate::shown::Shown;
 use cdr_core::Order;
 use giop_core::{
-    Body, Content, Contexts, FtField, LocateReply, LocateRequest, LocateStatus, Reply, ReplyStatus,
-    ReplyWish, Request, Target, Version, ft_request,
+    Body, Content, LocateReply, LocateRequest, LocateStatus, Reply, ReplyStatus, ReplyWish,
+    Request, Target, Version, ft_request,
 };
-use giop_text::{
-    completion_name, context_name, exception_id, exception_name, system_exception, text_of,
-};
+use giop_text::text_of;
 use serde::Serialize;
 use std::alloc::{AllocError, Global};
-
-/// A service context.
-#[derive(Drop, Serialize)]
-struct ContextObject {
-    id: u32,
-    name: Option<&'static str>,
-    octets: String,
-}
-
-/// What a request's FT_REQUEST context says.
-#[derive(Drop, Serialize)]
-struct FtObject {
-    valid: bool,
-    client: Option<String>,
-    retention: Option<i32>,
-    expiration: Option<u64>,
-    expires: Option<String>,
-}
-
-/// What a request is for.
-#[derive(Drop, Serialize)]
-struct TargetObject {
-    key: Option<String>,
-    text: Option<String>,
-    tag: Option<u32>,
-    profile: Option<String>,
-    index: Option<u32>,
-}
-
-/// The exception that a reply carries.
-#[derive(Drop, Serialize)]
-struct ExceptionObject {
-    id: String,
-    name: Option<&'static str>,
-    minor: Option<u32>,
-    completed: Option<&'static str>,
-}
 
 /// A message.
 #[derive(Drop, Serialize)]
@@ -74,6 +42,18 @@ struct MessageObject {
     contexts: Vec<ContextObject>,
     ft: Option<FtObject>,
     repeats: Option<u64>,
+    #[serde(skip_serializing_if = "Option::is_none")]
+    frame: Option<u64>,
+    #[serde(skip_serializing_if = "Option::is_none")]
+    time: Option<String>,
+    #[serde(skip_serializing_if = "Option::is_none")]
+    since: Option<u64>,
+    #[serde(skip_serializing_if = "Option::is_none")]
+    latency: Option<u64>,
+    #[serde(skip_serializing_if = "Option::is_none")]
+    forward: Option<ForwardObject>,
+    #[serde(skip_serializing_if = "Option::is_none")]
+    body: Option<String>,
 }
 
 fn version_name(version: Version) -> &'static str {
@@ -97,107 +77,6 @@ fn wish_name(wish: ReplyWish) -> &'static str {
         ReplyWish::Empty => "empty",
         ReplyWish::Full => "full",
     }
-}
-
-/// The object of a service context.
-fn context_object(alloc: Global, id: u32, octets: &[u8]) -> Result<ContextObject, AllocError> {
-    Ok(ContextObject {
-        id,
-        name: context_name(id),
-        octets: hex::encode(alloc, octets)?,
-    })
-}
-
-/// The objects of service contexts.
-fn context_objects(alloc: Global, contexts: Contexts) -> Result<Vec<ContextObject>, AllocError> {
-    let mut objects = Vec::new(alloc);
-    for (id, octets) in contexts {
-        objects.push(context_object(alloc, id, octets)?)?;
-    }
-    Ok(objects)
-}
-
-/// The text of the time of a moment.
-fn expires_text(alloc: Global, moment: u64) -> Result<Option<String>, AllocError> {
-    match time_of(moment) {
-        Some(time) => Ok(Some(format!(in alloc; "{time}")?)),
-        None => Ok(None),
-    }
-}
-
-/// The object of an FT_REQUEST context, if there is one.
-fn ft_object(alloc: Global, field: FtField) -> Result<Option<FtObject>, AllocError> {
-    let object = match field {
-        FtField::Absent => return Ok(None),
-        FtField::Bad => FtObject {
-            valid: false,
-            client: None,
-            retention: None,
-            expiration: None,
-            expires: None,
-        },
-        FtField::Present {
-            client_id,
-            retention_id,
-            expiration,
-        } => FtObject {
-            valid: true,
-            client: Some(text_of(alloc, client_id)?),
-            retention: Some(retention_id),
-            expiration: Some(expiration),
-            expires: expires_text(alloc, expiration)?,
-        },
-    };
-    Ok(Some(object))
-}
-
-/// The object of a target.
-fn target_object(alloc: Global, target: &Target) -> Result<TargetObject, AllocError> {
-    let mut object = TargetObject {
-        key: None,
-        text: None,
-        tag: None,
-        profile: None,
-        index: None,
-    };
-    match target {
-        Target::Key(key) => {
-            object.key = Some(hex::encode(alloc, *key)?);
-            object.text = Some(text_of(alloc, key)?);
-        }
-        Target::Profile(tag, octets) => {
-            object.tag = Some(*tag);
-            object.profile = Some(hex::encode(alloc, *octets)?);
-        }
-        Target::Reference(index, _) => object.index = Some(*index),
-    }
-    Ok(object)
-}
-
-/// The object of a system exception, if the body is one.
-fn system_object(alloc: Global, body: &Body) -> Result<Option<ExceptionObject>, AllocError> {
-    let Some(raised) = system_exception(body) else {
-        return Ok(None);
-    };
-    Ok(Some(ExceptionObject {
-        id: text_of(alloc, raised.id)?,
-        name: exception_name(raised.id),
-        minor: Some(raised.minor),
-        completed: Some(completion_name(raised.completed)),
-    }))
-}
-
-/// The object of a user exception, if the body begins with one.
-fn user_object(alloc: Global, body: &Body) -> Result<Option<ExceptionObject>, AllocError> {
-    let Some(id) = exception_id(body) else {
-        return Ok(None);
-    };
-    Ok(Some(ExceptionObject {
-        id: text_of(alloc, id)?,
-        name: None,
-        minor: None,
-        completed: None,
-    }))
 }
 
 /// The object of a message that says nothing.
@@ -224,6 +103,12 @@ fn bare_object(alloc: Global, shown: &Shown) -> MessageObject {
         contexts: Vec::new(alloc),
         ft: None,
         repeats: shown.seen.tie.repeats,
+        frame: None,
+        time: None,
+        since: None,
+        latency: None,
+        forward: None,
+        body: None,
     }
 }
 
@@ -351,20 +236,80 @@ fn set_content(
     Ok(())
 }
 
+/// The digits of a message's body, if it has one.
+fn body_text(alloc: Global, content: &Content) -> Result<Option<String>, AllocError> {
+    let octets = match content {
+        Content::Request(request) => request.body.octets,
+        Content::Reply(reply) => reply.body.octets,
+        Content::LocateReply(reply) => reply.body.octets,
+        _ => return Ok(None),
+    };
+    Ok(Some(hex::encode(alloc, octets)?))
+}
+
+/// The letter of the key that a message is for, if it is for one.
+fn letter_in(content: &Content, objects: &mut Objects) -> Result<Option<String>, AllocError> {
+    let target = match content {
+        Content::Request(request) => &request.target,
+        Content::LocateRequest(request) => &request.target,
+        _ => return Ok(None),
+    };
+    match target {
+        Target::Key(key) => objects.letter(key),
+        Target::Profile(_, _) | Target::Reference(_, _) => Ok(None),
+    }
+}
+
+/// With what a capture tells of the message.
+fn set_caught(
+    printer: &Printer,
+    content: &Content,
+    caught: &Caught,
+    objects: &mut Objects,
+    object: &mut MessageObject,
+) -> Result<(), AllocError> {
+    object.frame = frame_of(Some(caught));
+    object.time = caught_time(printer.alloc, Some(caught))?;
+    object.since = caught.since();
+    object.latency = caught.latency;
+    object.forward = forward_object(printer.alloc, content, objects)?;
+    if printer.has_bodies {
+        object.body = body_text(printer.alloc, content)?;
+    }
+    Ok(())
+}
+
 /// The object of a message.
-fn message_object(alloc: Global, shown: Shown) -> Result<MessageObject, AllocError> {
+fn message_object(
+    printer: &Printer,
+    shown: Shown,
+    caught: Option<&Caught>,
+    objects: &mut Objects,
+) -> Result<MessageObject, AllocError> {
+    let alloc = printer.alloc;
     let mut object = bare_object(alloc, &shown);
     set_operation(alloc, shown.operation, &mut object)?;
+    let mut letter = None;
+    if let Some(caught) = caught {
+        let content = &shown.seen.message.content;
+        letter = letter_in(content, objects)?;
+        set_caught(printer, content, caught, objects, &mut object)?;
+    }
     set_content(alloc, shown.seen.message.content, &mut object)?;
+    if let Some(target) = &mut object.target {
+        target.object = letter;
+    }
     Ok(object)
 }
 
 /// Appends the line of a message.
 pub(crate) fn put_message(
-    alloc: Global,
+    printer: &Printer,
     shown: Shown,
+    caught: Option<&Caught>,
+    objects: &mut Objects,
     text: &mut String,
 ) -> Result<(), AllocError> {
-    let object = message_object(alloc, shown)?;
-    put_object(alloc, &object, text)
+    let object = message_object(printer, shown, caught, objects)?;
+    put_object(printer.alloc, &object, text)
 }

@@ -1,26 +1,38 @@
 //! The lines of a trace: of each message of either side of connections, with the request that it has to do with, and of
 //! what lies between messages; for a person, or as JSON.
 //!
-//! It stands on `giop_tap`, whose messages it prints, and on `giop_text` for the words of a message. No contract says what
-//! its lines are: tests do.
+//! It stands on `giop_tap`, whose messages it prints, and on `giop_text` for the words of a message. It promises how long after
+//! a request its answer came; what its lines are is by tests.
 #![tactic(auto)]
 
+mod caught;
+mod caught_forwards;
+mod caught_lines;
 mod counts;
+mod forwards;
 mod json;
+mod json_forwards;
+mod json_parts;
 mod left;
 mod lines;
 mod looks;
 mod moments;
+mod objects;
 mod printing;
 mod reports;
 mod shown;
+mod summaries;
+mod summary;
 
 // what is printed
+pub use caught::{Caught, Stamp, later_time, time_between};
 pub use counts::Counts;
 pub use left::Left;
 pub use looks::{Looks, looks_of};
-pub use printing::Endpoints;
+pub use objects::Objects;
+pub use printing::{Closing, Endpoints, Spot};
 pub use shown::Shown;
+pub use summary::{Called, Ending, Endings, Row, Summary};
 
 // its lines
 pub use printing::{Format, Printer};

@@ -20,7 +20,7 @@ use giop_text::{
 use std::alloc::{AllocError, Global};
 
 /// Appends how many octets the digits are that stand before.
-fn put_count(octets: &[u8], text: &mut String) -> Result<(), AllocError> {
+pub(crate) fn put_count(octets: &[u8], text: &mut String) -> Result<(), AllocError> {
     let count = octets.len();
     write!(text, ", {count} octets")
 }
@@ -65,7 +65,7 @@ fn put_repeat(repeats: Option<u64>, text: &mut String) -> Result<(), AllocError>
 }
 
 /// Appends the line of an FT_REQUEST context, if there is one.
-fn put_ft_line(
+pub(crate) fn put_ft_line(
     alloc: Global,
     field: FtField,
     repeats: Option<u64>,
@@ -100,14 +100,14 @@ fn put_request_lines(
 
 /// The request that a message answers or cancels: its number, its operation, and how many messages ago it came.
 #[derive(Clone, Copy)]
-struct Earlier<'t> {
-    number: u64,
-    operation: &'t [u8],
-    later: u64,
+pub(crate) struct Earlier<'t> {
+    pub number: u64,
+    pub operation: &'t [u8],
+    pub later: u64,
 }
 
 /// Appends which request a message answers or cancels.
-fn put_earlier(
+pub(crate) fn put_earlier(
     alloc: Global,
     earlier: Option<Earlier>,
     text: &mut String,
@@ -130,7 +130,11 @@ fn put_earlier(
 }
 
 /// Appends what a system exception is, or that the body is none.
-fn put_system_exception(alloc: Global, body: &Body, text: &mut String) -> Result<(), AllocError> {
+pub(crate) fn put_system_exception(
+    alloc: Global,
+    body: &Body,
+    text: &mut String,
+) -> Result<(), AllocError> {
     let Some(raised) = system_exception(body) else {
         return text.push_str(" bad");
     };
@@ -145,7 +149,11 @@ fn put_system_exception(alloc: Global, body: &Body, text: &mut String) -> Result
 }
 
 /// Appends what a user exception is, or that the body is none.
-fn put_user_exception(alloc: Global, body: &Body, text: &mut String) -> Result<(), AllocError> {
+pub(crate) fn put_user_exception(
+    alloc: Global,
+    body: &Body,
+    text: &mut String,
+) -> Result<(), AllocError> {
     let Some(id) = exception_id(body) else {
         return text.push_str(" bad");
     };
@@ -227,11 +235,7 @@ pub(crate) fn put_message(
     shown: Shown,
     text: &mut String,
 ) -> Result<(), AllocError> {
-    let earlier = shown.seen.tie.request.map(|number| Earlier {
-        number,
-        operation: shown.operation.unwrap_or(&[]),
-        later: shown.later(number),
-    });
+    let earlier = shown.earlier();
     let number = shown.seen.number;
     let sender = shown.seen.sender;
     let end = shown.end;

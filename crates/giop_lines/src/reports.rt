@@ -1,14 +1,26 @@
 //! The lines beside those of messages as JSON, an object each.
 
+use crate::caught::{Caught, Stamp};
 use crate::counts::Counts;
 use crate::left::Left;
 use crate::looks::Looks;
-use crate::printing::Endpoints;
+use crate::moments::moment_of;
+use crate::printing::{Endpoints, Spot};
 use giop_link::LinkFault;
 use giop_tap::Sender;
 use giop_text::text_of;
 use serde::Serialize;
 use std::alloc::{AllocError, Global};
+
+/// The form of the lines, which changes where a line is read otherwise than before.
+const FORM: u64 = 1;
+
+/// The first line of a capture that tells times.
+#[derive(Drop, Serialize)]
+struct VersionObject {
+    line: &'static str,
+    form: u64,
+}
 
 /// A connection.
 #[derive(Drop, Serialize)]
@@ -18,6 +30,21 @@ struct ConnectionObject {
     stream: Option<u64>,
     opener: Option<String>,
     acceptor: Option<String>,
+    #[serde(skip_serializing_if = "Option::is_none")]
+    frame: Option<u64>,
+    #[serde(skip_serializing_if = "Option::is_none")]
+    time: Option<String>,
+}
+
+/// A side that closed its connection.
+#[derive(Drop, Serialize)]
+struct ClosedObject {
+    line: &'static str,
+    connection: u64,
+    direction: &'static str,
+    by: &'static str,
+    frame: Option<u64>,
+    time: Option<String>,
 }
 
 /// Octets of a direction that are no message: those that the capture missed, that were passed over, or that are left.
@@ -31,6 +58,10 @@ struct OctetsObject {
     octets: u64,
     #[serde(skip_serializing_if = "Option::is_none")]
     partial: Option<u64>,
+    #[serde(skip_serializing_if = "Option::is_none")]
+    frame: Option<u64>,
+    #[serde(skip_serializing_if = "Option::is_none")]
+    time: Option<String>,
 }
 
 /// A fault in the frame that begins at a place.
@@ -42,6 +73,10 @@ struct FaultObject {
     at: u64,
     fault: String,
     looks: Option<&'static str>,
+    #[serde(skip_serializing_if = "Option::is_none")]
+    frame: Option<u64>,
+    #[serde(skip_serializing_if = "Option::is_none")]
+    time: Option<String>,
 }
 
 /// The end of all connections.
@@ -83,6 +118,57 @@ pub(crate) fn put_object<T: Serialize>(
     }
 }
 
+/// The text of the time of a moment, if it is known.
+pub(crate) fn time_text(alloc: Global, time: Option<u64>) -> Result<Option<String>, AllocError> {
+    match time.and_then(moment_of) {
+        Some(time) => Ok(Some(format!(in alloc; "{time}")?)),
+        None => Ok(None),
+    }
+}
+
+/// The packet of a line, if it is known.
+pub(crate) fn frame_of(caught: Option<&Caught>) -> Option<u64> {
+    caught.map(|caught| caught.stamp.frame)
+}
+
+/// The text of a line's time, if it is known.
+pub(crate) fn caught_time(
+    alloc: Global,
+    caught: Option<&Caught>,
+) -> Result<Option<String>, AllocError> {
+    match caught {
+        Some(caught) => time_text(alloc, caught.stamp.time),
+        None => Ok(None),
+    }
+}
+
+/// Appends the line of the form.
+pub(crate) fn put_version(alloc: Global, text: &mut String) -> Result<(), AllocError> {
+    let object = VersionObject {
+        line: "trace",
+        form: FORM,
+    };
+    put_object(alloc, &object, text)
+}
+
+/// Appends the line of a side that closed its connection.
+pub(crate) fn put_closed(
+    alloc: Global,
+    spot: &Spot,
+    by: &'static str,
+    text: &mut String,
+) -> Result<(), AllocError> {
+    let object = ClosedObject {
+        line: "closed",
+        connection: spot.connection,
+        direction: direction_name(spot.sender),
+        by,
+        frame: frame_of(spot.caught.as_ref()),
+        time: caught_time(alloc, spot.caught.as_ref())?,
+    };
+    put_object(alloc, &object, text)
+}
+
 /// The text of an address, if it is known.
 fn address_text(alloc: Global, address: &[u8]) -> Result<Option<String>, AllocError> {
     if address.is_empty() {
@@ -96,6 +182,7 @@ pub(crate) fn put_connection(
     alloc: Global,
     connection: u64,
     ends: &Endpoints,
+    stamp: Option<Stamp>,
     text: &mut String,
 ) -> Result<(), AllocError> {
     let object = ConnectionObject {
@@ -104,6 +191,8 @@ pub(crate) fn put_connection(
         stream: ends.stream,
         opener: address_text(alloc, ends.opener)?,
         acceptor: address_text(alloc, ends.acceptor)?,
+        frame: stamp.map(|stamp| stamp.frame),
+        time: time_text(alloc, stamp.and_then(|stamp| stamp.time))?,
     };
     put_object(alloc, &object, text)
 }
@@ -111,18 +200,19 @@ pub(crate) fn put_connection(
 /// Appends the line of octets that the capture missed.
 pub(crate) fn put_missing(
     alloc: Global,
-    connection: u64,
-    sender: Sender,
+    spot: &Spot,
     octets: u64,
     text: &mut String,
 ) -> Result<(), AllocError> {
     let object = OctetsObject {
         line: "missing",
-        connection,
-        direction: direction_name(sender),
+        connection: spot.connection,
+        direction: direction_name(spot.sender),
         from: None,
         octets,
         partial: None,
+        frame: frame_of(spot.caught.as_ref()),
+        time: caught_time(alloc, spot.caught.as_ref())?,
     };
     put_object(alloc, &object, text)
 }
@@ -130,8 +220,7 @@ pub(crate) fn put_missing(
 /// Appends the line of a fault in the frame that begins at a place.
 pub(crate) fn put_fault(
     alloc: Global,
-    connection: u64,
-    sender: Sender,
+    spot: &Spot,
     at: u64,
     fault: LinkFault,
     looks: Option<Looks>,
@@ -139,11 +228,13 @@ pub(crate) fn put_fault(
 ) -> Result<(), AllocError> {
     let object = FaultObject {
         line: "fault",
-        connection,
-        direction: direction_name(sender),
+        connection: spot.connection,
+        direction: direction_name(spot.sender),
         at,
         fault: format!(in alloc; "{fault}")?,
         looks: looks.map(|looks| looks.name()),
+        frame: frame_of(spot.caught.as_ref()),
+        time: caught_time(alloc, spot.caught.as_ref())?,
     };
     put_object(alloc, &object, text)
 }
@@ -151,19 +242,20 @@ pub(crate) fn put_fault(
 /// Appends the line of octets that were passed over.
 pub(crate) fn put_passed(
     alloc: Global,
-    connection: u64,
-    sender: Sender,
+    spot: &Spot,
     from: u64,
     octets: u64,
     text: &mut String,
 ) -> Result<(), AllocError> {
     let object = OctetsObject {
         line: "passed",
-        connection,
-        direction: direction_name(sender),
+        connection: spot.connection,
+        direction: direction_name(spot.sender),
         from: Some(from),
         octets,
         partial: None,
+        frame: frame_of(spot.caught.as_ref()),
+        time: caught_time(alloc, spot.caught.as_ref())?,
     };
     put_object(alloc, &object, text)
 }
@@ -171,26 +263,27 @@ pub(crate) fn put_passed(
 /// Appends the line of what is left of a side at the end of its connection, if something is.
 pub(crate) fn put_left(
     alloc: Global,
-    connection: u64,
-    sender: Sender,
+    spot: &Spot,
     left: Left,
     text: &mut String,
 ) -> Result<(), AllocError> {
     let (line, octets, partial) = match left {
         Left::Nothing => return Ok(()),
         Left::Passed(from, octets) => {
-            return put_passed(alloc, connection, sender, from, octets, text);
+            return put_passed(alloc, spot, from, octets, text);
         }
         Left::Rest(octets, partial) => ("rest", octets, partial),
         Left::Unread(octets) => ("unread", octets, 0),
     };
     let object = OctetsObject {
         line,
-        connection,
-        direction: direction_name(sender),
+        connection: spot.connection,
+        direction: direction_name(spot.sender),
         from: None,
         octets,
         partial: Some(partial),
+        frame: frame_of(spot.caught.as_ref()),
+        time: caught_time(alloc, spot.caught.as_ref())?,
     };
     put_object(alloc, &object, text)
 }

@@ -1,5 +1,6 @@
 //! A message with all that its line says besides what it says itself.
 
+use crate::lines::Earlier;
 use giop_tap::Seen;
 
 /// A message, the place where it ends, and the request that it answers or cancels.
@@ -12,7 +13,17 @@ pub struct Shown<'t> {
     pub operation: Option<&'t [u8]>,
 }
 
-impl Shown<'_> {
+impl<'t> Shown<'t> {
+    /// The request that it answers or cancels.
+    pub(crate) fn earlier(&self) -> Option<Earlier<'t>> {
+        let number = self.seen.tie.request?;
+        Some(Earlier {
+            number,
+            operation: self.operation.unwrap_or(&[]),
+            later: self.later(number),
+        })
+    }
+
     /// How many messages after the request of this number it came.
     pub fn later(&self, request: u64) -> u64 {
         self.seen.number.saturating_sub(request)

@@ -76,6 +76,21 @@ pub record PairsStand (p : Paired) (earlier : List Said) : Type 0 where
   pub waiting_are : AreWaiting p.waiting (waiting earlier)
   pub keyed_are : AreNamed p.keyed (named earlier)
 
+-- the ends of a connection that was left for another, and what both sides have sent on it
+pub record Parted : Type 0 where
+  pub connection : ℕ
+  pub opener : Listened
+  pub acceptor : Listened
+
+pub record EndsStand (limits : Limits) (e : Parted) (t : Talk) : Type 0 where
+  pub connection_is : e.connection ≡ t.connection
+  pub opener_stands : ListenerStands counts limits e.opener t.opener
+  pub acceptor_stands : ListenerStands counts limits e.acceptor t.acceptor
+
+-- a connection that goes on, of which this has come; the messages of all connections are those of the other
+abbrev pub turned : Talk → Talk → Talk
+turned on t = record { connection = on.connection; opener = on.opener; acceptor = on.acceptor; earlier = t.earlier }
+
 -- a trace, and what it stands for
 pub record Traced : Type 0 where
   pub limits : Limits

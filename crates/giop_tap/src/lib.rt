@@ -21,4 +21,4 @@ pub use sender::Sender;
 
 // a reader beside connections, and what it lends
 pub use pairing::Tie;
-pub use tracer::{Seen, Trace};
+pub use tracer::{Ends, Seen, Trace};

@@ -5,7 +5,7 @@ ghost use Rattle.giop_frames.specs.declared.limits.Limits.{Limits};
 ghost use Rattle.giop_link.specs.Listening.{ListenerStands};
 ghost use Rattle.giop_tap.specs.Pairing.{Said};
 ghost use Rattle.giop_tap.specs.Tracing as tracing;
-ghost use Rattle.giop_tap.specs.Tracing.{PairsStand, Talk, TraceStands, counts, news, said_after, talk_after};
+ghost use Rattle.giop_tap.specs.Tracing.{EndsStand, PairsStand, Talk, TraceStands, counts, news, said_after, talk_after};
 
 use crate::either::Either;
 use crate::pairing::{Pairs, Tie};
@@ -15,6 +15,7 @@ use giop_frames::{Limits, StreamFault};
 use giop_link::{LinkFault, Listener};
 use std::alloc::{AllocError, Global};
 use std::marker::Model;
+use std::mem;
 
 /// Takes octets of a side up to and with the end of the next message, or all, and that message among the others.
 fn hear(
@@ -53,7 +54,36 @@ pub struct Seen<'t> {
     pub tie: Tie,
 }
 
-/// A reader beside connections, one after another: it takes the octets of both sides as they come, and lends each
+/// What both sides of a connection have sent, as far as it is not a whole message, while a trace is on another.
+#[derive(Debug, Drop)]
+pub struct Ends {
+    connection: u64,
+    opener: Listener<Either>,
+    acceptor: Listener<Either>,
+}
+
+impl Model for Ends {
+    ghost use Rattle.giop_tap.specs.Tracing.{Parted};
+
+    ghost Value = { Parted };
+
+    ghost view = { λ e. record { connection = e.connection; opener = e.opener; acceptor = e.acceptor } };
+}
+
+impl Ends {
+    /// Those of a connection of this number, on which nothing has come.
+    pub fn new(alloc: Global, limits: Limits, connection: u64) -> Ends
+        ensures { EndsStand limits result (tracing.connected connection tracing.silence) }
+    {
+        Ends {
+            connection,
+            opener: Listener::new(alloc, limits),
+            acceptor: Listener::new(alloc, limits),
+        }
+    }
+}
+
+/// A reader beside connections, on one at a time: it takes the octets of both sides as they come, and lends each
 /// message that completes, with the request that it answers or cancels, and the one that it repeats.
 ///
 /// A message may be of either side: requests of the side that accepted the connection count as well, and have ids of
@@ -105,6 +135,24 @@ impl Trace {
         self.opener = Listener::new(self.alloc, self.limits);
         self.acceptor = Listener::new(self.alloc, self.limits);
         self.lends = None;
+    }
+
+    /// Goes to a connection of which this has come, and returns what has come of the one that it leaves. No message is
+    /// lent then.
+    pub fn turn_to(&mut self, ends: Ends) -> Ends
+        ensures stands { (t on : Talk) → TraceStands self.old t → EndsStand self.old.limits ends on → TraceStands self.new (tracing.turned on t) }
+        ensures left { (t : Talk) → TraceStands self.old t → EndsStand self.old.limits result t }
+        ensures limits { self.new.limits ≡ self.old.limits }
+    {
+        self.lends = None;
+        let opener = mem::replace(&mut self.opener, ends.opener);
+        let acceptor = mem::replace(&mut self.acceptor, ends.acceptor);
+        let connection = mem::replace(&mut self.connection, ends.connection);
+        Ends {
+            connection,
+            opener,
+            acceptor,
+        }
     }
 
     /// Lets the stream of a side begin anew, as after a fault: what was left of it is dropped.

@@ -21,7 +21,7 @@ pub use messages::{
 
 // exceptions in the bodies of replies, and names
 pub use exceptions::{SystemException, exception_id, system_exception};
-pub use names::{completion_name, context_name, exception_name};
+pub use names::{completion_name, component_name, context_name, exception_name};
 
 // what is no message
 pub use captures::is_capture;

@@ -1,4 +1,5 @@
-//! The names that the standard gives: of system exceptions and of service contexts.
+//! The names that the standard gives: of system exceptions, of service contexts and of components of
+//! profiles.
 
 use giop_core::FT_REQUEST;
 
@@ -97,6 +98,31 @@ pub fn context_name(id: u32) -> Option<&'static str> {
         19 => "SERVICE_SESSION_ID",
         20 => "FIREWALL_PATH",
         21 => "FIREWALL_PATH_RESP",
+        _ => return None,
+    };
+    Some(name)
+}
+
+/// The name of the tag of a component of a profile (IOP 7.6.6, and the standards that add to it).
+pub fn component_name(tag: u32) -> Option<&'static str> {
+    let name = match tag {
+        0 => "ORB_TYPE",
+        1 => "CODE_SETS",
+        2 => "POLICIES",
+        3 => "ALTERNATE_IIOP_ADDRESS",
+        5 => "COMPLETE_OBJECT_KEY",
+        6 => "ENDPOINT_ID_POSITION",
+        12 => "LOCATION_POLICY",
+        13 => "ASSOCIATION_OPTIONS",
+        14 => "SEC_NAME",
+        20 => "SSL_SEC_TRANS",
+        25 => "JAVA_CODEBASE",
+        27 => "FT_GROUP",
+        28 => "FT_PRIMARY",
+        29 => "FT_HEARTBEAT_ENABLED",
+        33 => "CSI_SEC_MECH_LIST",
+        34 => "NULL_TAG",
+        36 => "TLS_SEC_TRANS",
         _ => return None,
     };
     Some(name)

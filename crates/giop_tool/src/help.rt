@@ -52,6 +52,30 @@ pub(crate) const RESUME: &str = "After a fault goes on at the next header of a p
 
 pub(crate) const JSON: &str = "Prints an object of JSON a line";
 
+pub(crate) const BODIES: &str = "Of packets prints the octets of bodies and contexts too";
+
+pub(crate) const CLOCK: &str = "Of packets prints the time of UTC, and not that since the first";
+
+pub(crate) const OPERATION: &str =
+    "Only requests of this operation, and what answers or cancels them";
+
+pub(crate) const OBJECT: &str =
+    "Only requests for the object of this key, as it is or in hexadecimal digits";
+
+pub(crate) const CLIENT: &str = "Only requests of this client of FT_REQUEST";
+
+pub(crate) const CALL: &str = "Only the request of this number, and those that repeat it";
+
+pub(crate) const SLOWER: &str =
+    "Only requests that were answered so many milliseconds later, or more";
+
+pub(crate) const UNANSWERED: &str = "Only requests that nothing answered";
+
+pub(crate) const FAULTS: &str =
+    "Only requests that a system exception answered, and what is wrong with octets";
+
+pub(crate) const SUMMARY: &str = "Prints counts and latencies of calls, and no messages";
+
 pub(crate) const LOG: &str = "Writes a line for each request on standard error";
 
 pub(crate) const ENGINE: &str =
@@ -135,7 +159,8 @@ Example:
 pub(crate) const TRACE: &str =
     "Input: what `tshark -r CAPTURE -q -z follow,tcp,raw,N` prints, with N from 0 for each connection, one after
 another: lines of hexadecimal digits, those that begin with a tab of the side that accepted the connection.
-Other lines are passed over. With --raw octets of one direction. A message has at most 1,048,576 octets.
+Other lines are passed over. With --raw octets of one direction. A message has at most 1,048,576 octets. Or what
+`tshark -q -z follow,tcp,yaml,N` prints, or giop-capture hands on: then the lines tell packets, times and latencies.
 
 Lines: one for each message of either side, in order: its number, its direction, `>` from the side that opened
 the connection and `<` from the one that accepted it, how many octets of that direction have come with its last

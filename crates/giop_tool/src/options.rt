@@ -15,6 +15,34 @@ pub(crate) fn flag<'a>(alloc: Global, name: &'a str, help: &'a str) -> Arg<'a> {
         .action(ArgAction::SetTrue)
 }
 
+/// An option that takes a word.
+fn word_option<'a>(alloc: Global, name: &'a str, value: &'a str, help: &'a str) -> Arg<'a> {
+    Arg::new(alloc, name)
+        .long(name)
+        .value_name(value)
+        .help(help)
+        .action(ArgAction::Set)
+}
+
+/// The options for which messages of a trace are printed.
+pub(crate) fn with_choice<'a>(
+    alloc: Global,
+    command: Command<'a>,
+) -> Result<Command<'a>, AllocError> {
+    let numbers = ValueParser::unsigned(1, u64::MAX);
+    let milliseconds = ValueParser::unsigned(0, u64::from(u32::MAX));
+    let command = command
+        .arg(word_option(alloc, "operation", "TEXT", help::OPERATION))?
+        .arg(word_option(alloc, "object", "KEY", help::OBJECT))?
+        .arg(word_option(alloc, "client", "TEXT", help::CLIENT))?;
+    let command = with_number(alloc, command, "call", help::CALL, numbers)?;
+    let command = with_number(alloc, command, "slower", help::SLOWER, milliseconds)?;
+    command
+        .arg(flag(alloc, "unanswered", help::UNANSWERED))?
+        .arg(flag(alloc, "faults", help::FAULTS))?
+        .arg(flag(alloc, "summary", help::SUMMARY))
+}
+
 /// An option that takes a number.
 fn number_option<'a>(
     alloc: Global,

@@ -5,7 +5,7 @@ ghost use Rattle.giop_tool.specs.Settings.{IsMeant, IsOfWords};
 
 use crate::help;
 use crate::help::Texts;
-use crate::options::{flag, with_engine, with_number, with_numbers, with_required};
+use crate::options::{flag, with_choice, with_engine, with_number, with_numbers, with_required};
 use crate::tracing::Tracing;
 use clap::builder::ValueParser;
 use clap::error::ErrorKind;
@@ -15,7 +15,7 @@ use giop_run::{
     CAPACITY, EnginePlay, Form, Input, JOINED, LIMIT, MOST_CONNECTIONS, Numbers, PARKED, PARTIALS,
     START, Service, Task,
 };
-use giop_trace::Options;
+use giop_trace::{Choice, Options};
 use std::alloc::{AllocError, Global};
 
 /// What the program is to do.
@@ -91,9 +91,12 @@ fn check_command<'a>(alloc: Global, texts: &'a Texts) -> Result<Command<'a>, All
 
 /// `giop trace [FILE]`.
 fn trace_command<'a>(alloc: Global) -> Result<Command<'a>, AllocError> {
-    stream_command(alloc, "trace", help::TRACES, help::TRACE)?
+    let command = stream_command(alloc, "trace", help::TRACES, help::TRACE)?
         .arg(flag(alloc, "resume", help::RESUME))?
-        .arg(flag(alloc, "json", help::JSON))
+        .arg(flag(alloc, "json", help::JSON))?
+        .arg(flag(alloc, "bodies", help::BODIES))?
+        .arg(flag(alloc, "clock", help::CLOCK))?;
+    with_choice(alloc, command)
 }
 
 /// `giop ior [TEXT]`.
@@ -236,6 +239,23 @@ fn text_of<'a>(words: &ArgMatches<'a>) -> Option<&'a str> {
     }
 }
 
+/// Nanoseconds in a millisecond.
+const MILLISECOND: u64 = 1_000_000;
+
+/// The messages that the words of `giop trace` ask for.
+fn choice_of<'a>(words: &ArgMatches<'a>) -> Choice<'a> {
+    let milliseconds = words.get_one::<u32>("slower");
+    Choice {
+        operation: words.get_str("operation"),
+        object: words.get_str("object"),
+        client: words.get_str("client"),
+        call: words.get_one::<u64>("call"),
+        has_faults: words.get_flag("faults"),
+        is_unanswered: words.get_flag("unanswered"),
+        slower: milliseconds.map(|number| u64::from(number).saturating_mul(MILLISECOND)),
+    }
+}
+
 /// The trace that the words of `giop trace` ask for.
 fn tracing_of<'a>(words: &ArgMatches<'a>) -> Tracing<'a> {
     let input = input_of(words);
@@ -249,6 +269,10 @@ fn tracing_of<'a>(words: &ArgMatches<'a>) -> Tracing<'a> {
             } else {
                 Format::Lines
             },
+            has_bodies: words.get_flag("bodies"),
+            is_clock: words.get_flag("clock"),
+            choice: choice_of(words),
+            is_summary: words.get_flag("summary"),
         },
     }
 }

@@ -9,7 +9,7 @@ use std::{fs, io};
 #[derive(Clone, Copy, Debug, PartialEq, Eq)]
 pub(crate) struct Tracing<'a> {
     pub(crate) input: Input<'a>,
-    pub(crate) options: Options,
+    pub(crate) options: Options<'a>,
 }
 
 /// Says that input is waited for, where it is read from a terminal and one sits before it.

@@ -1,6 +1,7 @@
 //! A connection as the input tells of it: its stream, its two ends, and what was held of its octets.
 
 use crate::opening::Asking;
+use giop_lines::{Closing, Stamp};
 use giop_tap::Sender;
 use std::alloc::{AllocError, Global};
 
@@ -11,6 +12,8 @@ pub(crate) enum Piece {
     Octets(Vec<u8>),
     /// So many octets that the capture missed.
     Missing(u64),
+    /// The end of all octets: the side closed the connection.
+    Closed(Closing),
 }
 
 /// A connection as the input tells of it.
@@ -23,8 +26,8 @@ pub(crate) struct Block {
     pub first: Vec<u8>,
     /// That of the other.
     pub second: Vec<u8>,
-    /// What is held of it.
-    pub pieces: Vec<(Sender, Piece)>,
+    /// What is held of it, with the packets that it came in where they are known.
+    pub pieces: Vec<(Sender, Option<Stamp>, Piece)>,
     /// Whether its line was printed, and what comes is traced at once.
     pub is_traced: bool,
     /// Whether the sides were turned round.
@@ -44,11 +47,13 @@ const EMPTY: u64 = 512;
 /// So many octets of memory what a line gives takes beside its octets, about.
 const APART: u64 = 64;
 
-/// How many octets of memory what a line gives takes, about.
-fn size_of(piece: &Piece) -> u64 {
-    match piece {
-        Piece::Octets(octets) => APART.saturating_add(octets.len() as u64),
-        Piece::Missing(_) => APART,
+impl Piece {
+    /// How many octets of memory it takes, about.
+    pub fn size(&self) -> u64 {
+        match self {
+            Piece::Octets(octets) => APART.saturating_add(octets.len() as u64),
+            Piece::Missing(_) | Piece::Closed(_) => APART,
+        }
     }
 }
 
@@ -60,6 +65,7 @@ fn hear_piece(side: &mut Asking, piece: &Piece) -> Result<(), AllocError> {
             side.miss(*octets);
             Ok(())
         }
+        Piece::Closed(_) => Ok(()),
     }
 }
 
@@ -88,6 +94,36 @@ impl Block {
             false => self.first = address,
         }
         Ok(())
+    }
+
+    /// Appends a part of the address of an end: the host, or behind a colon the port. A host that has colons stands in
+    /// brackets.
+    pub fn add_to_node(
+        &mut self,
+        end: Sender,
+        is_port: bool,
+        part: &[u8],
+    ) -> Result<(), AllocError> {
+        let address = match end {
+            Sender::Opener => &mut self.first,
+            Sender::Acceptor => &mut self.second,
+        };
+        let (before, after): (&[u8], &[u8]) = match is_port {
+            true => (b":", b""),
+            false if part.contains(&b':') => (b"[", b"]"),
+            false => (b"", b""),
+        };
+        address.extend_from_slice(before)?;
+        address.extend_from_slice(part)?;
+        address.extend_from_slice(after)
+    }
+
+    /// The packet of what is held that came first.
+    pub fn first_stamp(&self) -> Option<Stamp> {
+        match self.pieces.first() {
+            Some((_, stamp, _)) => *stamp,
+            None => None,
+        }
     }
 
     /// Whether tshark says that the capture has no such stream.
@@ -122,10 +158,15 @@ impl Block {
     }
 
     /// Holds what a line gives.
-    pub fn hold(&mut self, sender: Sender, piece: Piece) -> Result<(), AllocError> {
+    pub fn hold(
+        &mut self,
+        sender: Sender,
+        stamp: Option<Stamp>,
+        piece: Piece,
+    ) -> Result<(), AllocError> {
         self.hear(sender, &piece)?;
-        self.held = self.held.saturating_add(size_of(&piece));
-        self.pieces.push((sender, piece))?;
+        self.held = self.held.saturating_add(piece.size());
+        self.pieces.push((sender, stamp, piece))?;
         Ok(())
     }
 

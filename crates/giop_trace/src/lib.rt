@@ -5,20 +5,28 @@
 //! whose octets a line of its input has.
 #![tactic(auto)]
 
+mod asked;
 mod block;
+mod choice;
+mod coming;
 mod direction;
 mod follow;
 mod headers;
+mod item;
 mod notes;
+mod open;
 mod opening;
-mod operations;
+mod packets;
 mod program;
 mod session;
 mod sink;
 mod steps;
 mod stop;
+mod telling;
 mod text;
+mod yaml;
 
 // what `giop trace` does
+pub use choice::Choice;
 pub use program::{Options, trace};
 pub use stop::{Failure, Stop};

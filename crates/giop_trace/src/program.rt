@@ -1,24 +1,34 @@
 //! What `giop trace` does with its input.
 
+use crate::choice::{Choice, Chooser};
 use crate::session::Session;
 use crate::sink::{Sink, Source};
 use crate::stop::{Failure, Stop};
+use crate::telling::Teller;
 use crate::text::Text;
 use giop_frames::Limits;
 use giop_lines::{Endpoints, Format, Printer};
 use giop_text::is_capture;
-use std::alloc::Global;
+use std::alloc::{AllocError, Global};
 use std::io::{BufWriter, Read, Write};
 
 /// What is asked of a trace.
 #[derive(Clone, Copy, Debug, PartialEq, Eq)]
-pub struct Options {
+pub struct Options<'a> {
     /// The input is octets of one direction, and not what tshark prints.
     pub is_raw: bool,
     /// After a fault reading goes on at the next header of a plausible message.
     pub resumes: bool,
     /// The form of the lines.
     pub format: Format,
+    /// Whether bodies are printed where the input tells packets; else they always are.
+    pub has_bodies: bool,
+    /// Whether times are those of the day.
+    pub is_clock: bool,
+    /// Which messages are printed.
+    pub choice: Choice<'a>,
+    /// Whether counts of calls are printed, and no messages.
+    pub is_summary: bool,
 }
 
 /// Whether octets begin a message.
@@ -62,7 +72,7 @@ impl<R: Read> Run<'_, R> {
         if first.is_empty() {
             return Ok(());
         }
-        self.session.begin(&ALONE, out)?;
+        self.session.begin(&ALONE, None, out)?;
         self.session.take_raw(first, out)?;
         let mut buffer = vec![in self.alloc; 0u8; PIECE]?;
         for _ in 0..u64::MAX {
@@ -82,6 +92,8 @@ impl<R: Read> Run<'_, R> {
         text.take(first, &mut self.session, out)?;
         let mut buffer = vec![in self.alloc; 0u8; PIECE]?;
         for _ in 0..u64::MAX {
+            // (the next octets may be long in coming)
+            out.flush()?;
             let count = self.source.read(&mut buffer)?;
             if count == 0 {
                 break;
@@ -122,6 +134,18 @@ impl<R: Read> Run<'_, R> {
     }
 }
 
+/// What prints and counts the messages that are asked for.
+fn teller_of(alloc: Global, options: &Options) -> Result<Teller, AllocError> {
+    let printer = Printer {
+        alloc,
+        format: options.format,
+        has_bodies: options.has_bodies,
+        is_clock: options.is_clock,
+    };
+    let chooser = Chooser::new(alloc, &options.choice)?;
+    Ok(Teller::new(alloc, printer, chooser, options.is_summary))
+}
+
 /// Traces the connections in an input under the default limits, as it comes, and prints a line for each message, and at
 /// the end what was counted. Returns whether each direction ends after a message, with nothing left over.
 pub fn trace<R: Read, W: Write>(
@@ -130,9 +154,8 @@ pub fn trace<R: Read, W: Write>(
     input: &mut R,
     out: &mut W,
 ) -> Result<bool, Failure> {
-    let printer = Printer {
-        alloc,
-        format: options.format,
+    let Ok(teller) = teller_of(alloc, options) else {
+        return Err(Failure::Stop(Stop::Memory));
     };
     let mut out = match BufWriter::new(alloc, out) {
         Ok(writer) => Sink::new(writer),
@@ -146,7 +169,7 @@ pub fn trace<R: Read, W: Write>(
             is_ended: false,
             error: None,
         },
-        session: Session::new(alloc, Limits::default(), options.resumes, printer),
+        session: Session::new(alloc, Limits::default(), options.resumes, teller),
     };
     let came = tracing.run(&mut out);
     let Err(stop) = came else {

@@ -1,86 +1,76 @@
-//! Connections one after another, as they are traced and printed.
+//! Connections, as they are traced and printed: one after another, or by turns.
 
 use crate::block::Piece;
-use crate::direction::{Direction, Reading};
-use crate::operations::Operations;
+use crate::direction::Reading;
+use crate::open::Open;
 use crate::sink::Sink;
 use crate::steps::Step;
 use crate::stop::Stop;
-use giop_core::Content;
+use crate::telling::Teller;
 use giop_frames::Limits;
-use giop_lines::{Counts, Endpoints, Left, Printer, Shown};
-use giop_tap::{Seen, Sender, Trace};
+use giop_lines::{Closing, Endpoints, Left, Spot, Stamp};
+use giop_tap::{Ends, Sender, Trace};
 use std::alloc::Global;
+use std::collections::BTreeMap;
 use std::io::Write;
+use std::mem;
 
 /// What is traced, and what was counted so far.
 #[derive(Drop)]
 pub(crate) struct Session {
     alloc: Global,
     reading: Reading,
-    printer: Printer,
     trace: Trace,
-    operations: Operations,
-    opener: Direction,
-    acceptor: Direction,
-    connection: u64,
-    counts: Counts,
+    teller: Teller,
+    /// The connection that the trace is on.
+    open: Open,
+    /// The others that have not ended.
+    others: BTreeMap<u64, (Open, Ends)>,
+    /// The first time that came.
+    beginning: Option<u64>,
     /// Whether each direction so far ended after a message, with nothing left.
     pub is_clean: bool,
 }
 
-/// The operation that a message asks for, if it asks for one.
-fn operation_of<'m>(content: &Content<'m>) -> Option<&'m [u8]> {
-    match content {
-        Content::Request(request) => Some(request.operation),
-        _ => None,
-    }
-}
-
-/// Counts what a message has to do with earlier ones.
-fn count(seen: &Seen, operations: &mut Operations, counts: &mut Counts) -> Result<(), Stop> {
-    operations.push(operation_of(&seen.message.content))?;
-    if seen.tie.repeats.is_some() {
-        counts.repeats.push(seen.number)?;
-    }
-    match (&seen.message.content, seen.tie.request) {
-        (Content::Cancel(_), Some(request)) => operations.cancel(request),
-        (Content::Reply(_) | Content::LocateReply(_), None) => counts.strays.push(seen.number)?,
-        _ => {}
-    }
-    Ok(())
-}
-
 impl Session {
     /// One in which nothing has come.
-    pub fn new(alloc: Global, limits: Limits, resumes: bool, printer: Printer) -> Session {
+    pub fn new(alloc: Global, limits: Limits, resumes: bool, teller: Teller) -> Session {
         Session {
             alloc,
             reading: Reading { limits, resumes },
-            printer,
             trace: Trace::new(alloc, limits),
-            operations: Operations::new(alloc),
-            opener: Direction::new(alloc),
-            acceptor: Direction::new(alloc),
-            connection: 0,
-            counts: Counts::new(alloc),
+            teller,
+            open: Open::none(alloc),
+            others: BTreeMap::new(alloc),
+            beginning: None,
             is_clean: true,
         }
     }
 
-    /// Prints the message that is lent, if one is.
-    fn print_seen<W: Write>(&mut self, end: u64, out: &mut Sink<W>) -> Result<(), Stop> {
+    /// Where something of a side is said to be.
+    fn spot(&self, sender: Sender) -> Spot<'_> {
+        Spot {
+            connection: self.open.number,
+            sender,
+            caught: self.open.caught(sender, self.beginning, None),
+        }
+    }
+
+    /// Says what is to be said of the message that is lent, if one is.
+    fn tell_seen<W: Write>(&mut self, out: &mut Sink<W>) -> Result<(), Stop> {
         let Some(seen) = self.trace.seen() else {
             return Ok(());
         };
-        count(&seen, &mut self.operations, &mut self.counts)?;
-        let operation = self.operations.of(seen.tie.request.unwrap_or(0));
-        let shown = Shown {
-            seen,
-            end,
-            operation,
-        };
-        out.print(&self.printer.message(shown)?)
+        self.open.hear(&seen.message.content);
+        self.teller.tell(seen, &self.open, self.beginning, out)
+    }
+
+    /// Prints what is wrong with octets, where it is asked for.
+    fn print_fault<W: Write>(&mut self, text: &str, out: &mut Sink<W>) -> Result<(), Stop> {
+        match self.teller.prints_faults() {
+            true => out.print(text),
+            false => Ok(()),
+        }
     }
 
     /// Prints what came of a step.
@@ -88,24 +78,27 @@ impl Session {
         &mut self,
         sender: Sender,
         step: Step,
-        end: u64,
         out: &mut Sink<W>,
     ) -> Result<(), Stop> {
         match step {
             Step::Idle => {}
-            Step::Gave => self.print_seen(end, out)?,
+            Step::Gave => self.tell_seen(out)?,
             Step::Fault(at, fault, looks) => {
-                self.counts.faults = self.counts.faults.saturating_add(1);
+                self.teller.counts.faults = self.teller.counts.faults.saturating_add(1);
                 self.is_clean = false;
-                out.print(
-                    &self
-                        .printer
-                        .fault(self.connection, sender, at, fault, looks)?,
-                )?;
+                let text = self
+                    .teller
+                    .printer
+                    .fault(&self.spot(sender), at, fault, looks)?;
+                self.print_fault(&text, out)?;
             }
             Step::Passed(from, octets) => {
-                self.counts.pass(octets);
-                out.print(&self.printer.passed(self.connection, sender, from, octets)?)?;
+                self.teller.counts.pass(octets);
+                let text = self
+                    .teller
+                    .printer
+                    .passed(&self.spot(sender), from, octets)?;
+                self.print_fault(&text, out)?;
             }
         }
         Ok(())
@@ -118,27 +111,11 @@ impl Session {
         octets: &[u8],
         out: &mut Sink<W>,
     ) -> Result<usize, Stop> {
-        let reading = self.reading;
-        let (step, count) = match sender {
-            Sender::Opener => self.opener.step(sender, reading, octets, &mut self.trace)?,
-            Sender::Acceptor => self
-                .acceptor
-                .step(sender, reading, octets, &mut self.trace)?,
-        };
-        let end = match sender {
-            Sender::Opener => self.opener.taken(),
-            Sender::Acceptor => self.acceptor.taken(),
-        };
-        self.print_step(sender, step, end, out)?;
+        let (step, count) = self
+            .open
+            .step(sender, self.reading, octets, &mut self.trace)?;
+        self.print_step(sender, step, out)?;
         Ok(count)
-    }
-
-    /// Whether a step of a side is due before more octets come.
-    fn is_due(&self, sender: Sender) -> bool {
-        match sender {
-            Sender::Opener => self.opener.is_due(),
-            Sender::Acceptor => self.acceptor.is_due(),
-        }
     }
 
     /// Traces octets of a side.
@@ -152,7 +129,7 @@ impl Session {
         for _ in 0..u64::MAX {
             let count = self.step(sender, left, out)?;
             left = left.get(count..).unwrap_or(&[]);
-            if left.is_empty() && !self.is_due(sender) {
+            if left.is_empty() && !self.open.is_due(sender) {
                 break;
             }
         }
@@ -166,13 +143,11 @@ impl Session {
         octets: u64,
         out: &mut Sink<W>,
     ) -> Result<(), Stop> {
-        match sender {
-            Sender::Opener => self.opener.miss(sender, octets, &mut self.trace),
-            Sender::Acceptor => self.acceptor.miss(sender, octets, &mut self.trace),
-        }
-        self.counts.miss(octets);
+        self.open.miss(sender, octets, &mut self.trace);
+        self.teller.counts.miss(octets);
         self.is_clean = false;
-        out.print(&self.printer.missing(self.connection, sender, octets)?)
+        let text = self.teller.printer.missing(&self.spot(sender), octets)?;
+        self.print_fault(&text, out)
     }
 
     /// Prints what is left of a side.
@@ -184,29 +159,76 @@ impl Session {
     ) -> Result<(), Stop> {
         match left {
             Left::Nothing => return Ok(()),
-            Left::Passed(_, octets) => self.counts.pass(octets),
+            Left::Passed(_, octets) => self.teller.counts.pass(octets),
             Left::Rest(_, _) | Left::Unread(_) => {}
         }
         self.is_clean = false;
-        out.print(&self.printer.left(self.connection, sender, left)?)
+        let text = self.teller.printer.left(&self.spot(sender), left)?;
+        self.print_fault(&text, out)
     }
 
     /// Ends the connection.
     pub fn end_connection<W: Write>(&mut self, out: &mut Sink<W>) -> Result<(), Stop> {
-        let left = self.opener.left(Sender::Opener, &mut self.trace);
+        let left = self.open.left(Sender::Opener, &mut self.trace);
         self.print_left(Sender::Opener, left, out)?;
-        let left = self.acceptor.left(Sender::Acceptor, &mut self.trace);
-        self.print_left(Sender::Acceptor, left, out)
+        let left = self.open.left(Sender::Acceptor, &mut self.trace);
+        self.print_left(Sender::Acceptor, left, out)?;
+        self.teller.count_ending(&self.open);
+        self.open = Open::none(self.alloc);
+        Ok(())
     }
 
-    /// Goes to the next connection.
-    pub fn begin<W: Write>(&mut self, ends: &Endpoints, out: &mut Sink<W>) -> Result<(), Stop> {
-        self.connection = self.connection.saturating_add(1);
-        self.counts.connections = self.connection;
-        self.trace.connect(self.connection);
-        self.opener = Direction::new(self.alloc);
-        self.acceptor = Direction::new(self.alloc);
-        out.print(&self.printer.connection(self.connection, ends)?)
+    /// Sets the connection aside that the trace is on, if it is on one, and goes on with these ends.
+    fn set_aside(&mut self, ends: Ends) -> Result<(), Stop> {
+        let ends = self.trace.turn_to(ends);
+        let open = mem::replace(&mut self.open, Open::none(self.alloc));
+        if open.number != 0 {
+            self.others.insert(open.number, (open, ends))?;
+        }
+        Ok(())
+    }
+
+    /// Begins another connection, with its first packet where that is known, and returns its number. The one before
+    /// goes on later, unless it has ended.
+    pub fn begin<W: Write>(
+        &mut self,
+        ends: &Endpoints,
+        stamp: Option<Stamp>,
+        out: &mut Sink<W>,
+    ) -> Result<u64, Stop> {
+        let number = self.teller.counts.connections.saturating_add(1);
+        self.teller.counts.connections = number;
+        let fresh = Ends::new(self.alloc, self.reading.limits, number);
+        self.set_aside(fresh)?;
+        self.open = Open::new(self.alloc, number, ends)?;
+        if stamp.is_some() && number == 1 {
+            out.print(&self.teller.printer.head()?)?;
+        }
+        if self.teller.prints_connections() {
+            out.print(&self.teller.printer.connection(number, ends, stamp)?)?;
+        }
+        Ok(number)
+    }
+
+    /// Goes on with the connection of a number, if it has not ended.
+    pub fn turn_to(&mut self, number: u64) -> Result<(), Stop> {
+        if self.open.number == number {
+            return Ok(());
+        }
+        let Some((open, ends)) = self.others.remove(&number) else {
+            return Ok(());
+        };
+        self.set_aside(ends)?;
+        self.open = open;
+        Ok(())
+    }
+
+    /// Takes note of the packet in which what comes next of a side stands.
+    pub fn stamp(&mut self, sender: Sender, stamp: Stamp) {
+        if self.beginning.is_none() {
+            self.beginning = stamp.time;
+        }
+        self.open.set_stamp(sender, stamp);
     }
 
     /// Traces what a line gives of a side, and prints what comes of it.
@@ -219,6 +241,22 @@ impl Session {
         match piece {
             Piece::Octets(octets) => self.take_octets(sender, octets, out),
             Piece::Missing(octets) => self.miss(sender, *octets, out),
+            Piece::Closed(closing) => self.close(sender, *closing, out),
+        }
+    }
+
+    /// Prints that a side closed the connection.
+    fn close<W: Write>(
+        &mut self,
+        sender: Sender,
+        closing: Closing,
+        out: &mut Sink<W>,
+    ) -> Result<(), Stop> {
+        self.open.close(closing);
+        let text = self.teller.printer.closed(&self.spot(sender), closing)?;
+        match self.teller.prints_connections() {
+            true => out.print(&text),
+            false => Ok(()),
         }
     }
 
@@ -229,11 +267,8 @@ impl Session {
 
     /// Prints what was counted.
     pub fn end<W: Write>(&mut self, out: &mut Sink<W>) -> Result<(), Stop> {
-        self.counts.messages = self.trace.ties().len() as u64;
-        self.counts.unanswered = self.trace.unanswered()?;
-        self.counts.cancelled = self
-            .operations
-            .cancelled_of(self.alloc, &self.counts.unanswered)?;
-        out.print(&self.printer.counts(&self.counts)?)
+        self.teller.counts.messages = self.trace.ties().len() as u64;
+        let unanswered = self.trace.unanswered()?;
+        self.teller.end(unanswered, out)
     }
 }

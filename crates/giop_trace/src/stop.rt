@@ -32,6 +32,18 @@ pub enum Stop {
     /// The connection that ends before the line of that number is not in the capture.
     #[error("line {0}: the stream before it is not in the capture; `tshark -r FILE -q -z conv,tcp` lists those that are")]
     NoStream(u64),
+    /// The line of that number is not one that `tshark -q -z follow,tcp,yaml,N` prints, or is not where it does.
+    #[error("line {0}: not as `tshark -q -z follow,tcp,yaml,N` and giop-capture print it")]
+    Yaml(u64),
+    /// The octets of the packet that begins in the line of that number are cut, or no digits of base 64.
+    #[error("line {0}: a packet whose octets are not base 64, or are cut")]
+    Base64(u64),
+    /// With the connection in the line of that number too many have begun and not ended.
+    #[error("line {0}: more than 65536 connections at a time")]
+    Connections(u64),
+    /// A stream is not in the capture.
+    #[error("input: a stream that is not in the capture; `tshark -r FILE -q -z conv,tcp` lists those that are")]
+    Absent,
     /// The input is a dump of packets.
     #[error("input: a dump of packets, as of `tshark -x`; give what `tshark -r FILE -q -z follow,tcp,raw,N` prints")]
     Dump,

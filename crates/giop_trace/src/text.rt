@@ -3,9 +3,11 @@
 use crate::block::{Block, Piece};
 use crate::follow::{Line, LineError, line_of};
 use crate::notes::{Note, missing_in, note_of};
+use crate::packets::Packets;
 use crate::session::Session;
 use crate::sink::Sink;
 use crate::stop::Stop;
+use crate::yaml::is_yaml;
 use giop_lines::Endpoints;
 use giop_tap::Sender;
 use std::alloc::Global;
@@ -38,6 +40,8 @@ pub(crate) struct Text {
     /// The number of that line, from 1.
     number: u64,
     found: Found,
+    /// The packets, where the lines have those.
+    packets: Option<Packets>,
     block: Option<Block>,
     /// Those that wait for their turn, by their streams and the order in which they came.
     waiting: BTreeMap<(u64, u64), Block>,
@@ -93,9 +97,9 @@ fn hand_on<W: Write>(
             opener,
             acceptor,
         };
-        session.begin(&ends, out)?;
+        session.begin(&ends, None, out)?;
     }
-    for (sender, piece) in &block.pieces {
+    for (sender, _, piece) in &block.pieces {
         session.take(block.side_of(*sender), piece, out)?;
     }
     block.pieces.clear();
@@ -110,6 +114,7 @@ impl Text {
             line: Vec::new(alloc),
             number: 1,
             found: Found::Nothing,
+            packets: None,
             block: None,
             waiting: BTreeMap::new(alloc),
             next: 0,
@@ -225,7 +230,7 @@ impl Text {
         if block.is_traced {
             return session.take(block.side_of(sender), &piece, out);
         }
-        block.hold(sender, piece)?;
+        block.hold(sender, None, piece)?;
         if block.is_behind(self.next) {
             self.make_room(block.stream.unwrap_or(0), block.held, session, out)?;
         }
@@ -269,8 +274,24 @@ impl Text {
         }
     }
 
-    /// Takes a line.
+    /// Takes a line of any kind.
     fn take_line<W: Write>(
+        &mut self,
+        line: &[u8],
+        session: &mut Session,
+        out: &mut Sink<W>,
+    ) -> Result<(), Stop> {
+        if self.found != Found::Connections && self.packets.is_none() && is_yaml(line) {
+            self.packets = Some(Packets::new(self.alloc));
+        }
+        match &mut self.packets {
+            Some(packets) => packets.take_line(line, self.number, session, out),
+            None => self.take_raw_line(line, session, out),
+        }
+    }
+
+    /// Takes a line of octets of a side, or what stands around those.
+    fn take_raw_line<W: Write>(
         &mut self,
         line: &[u8],
         session: &mut Session,
@@ -343,6 +364,9 @@ impl Text {
     /// Ends the lines.
     pub fn end<W: Write>(&mut self, session: &mut Session, out: &mut Sink<W>) -> Result<(), Stop> {
         self.end_line(&[], session, out)?;
+        if let Some(packets) = &mut self.packets {
+            return packets.end(session, out);
+        }
         self.end_block(session, out)?;
         self.hand_on_next(true, session, out)?;
         match self.found {
