@@ -2,14 +2,14 @@
 
     omniidl -p idl -blemonrudder -Wbpython FILE.idl
 
-In place of python: cpp or types, several of them one after another; without any it is python.
+In place of python: cpp, c, rust or types, several of them one after another; without any it is python.
 """
 import importlib
 import sys
 
 from . import model
 
-LANGUAGES = ("python", "cpp", "types")
+LANGUAGES = ("python", "cpp", "c", "rust", "types")
 
 usage_string = "\n".join(f"  -Wb{language}" for language in LANGUAGES)
 

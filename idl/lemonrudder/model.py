@@ -197,6 +197,25 @@ class Unit:
         return [one for one in self.declarations if one.is_here]
 
 
+class Names:
+    """Sees to it that no two declarations have one name in a language."""
+
+    def __init__(self, language: str) -> None:
+        self.language = language
+        self.taken: Dict[str, Declared] = {}
+
+    def take(self, name: str, one: Declared) -> None:
+        before = self.taken.setdefault(name, one)
+        if before is not one:
+            raise Refused([f"{one.file}:{one.line}: {one.idl} and {before.idl} are both {name} in {self.language}"])
+
+
+def quoted(text: str) -> str:
+    """A text as a literal of C and C++."""
+    return '"' + "".join(char if 32 <= ord(char) < 127 and char not in '"\\?' else f"\\{ord(char):03o}"
+                         for char in text) + '"'
+
+
 def base_of(file: str) -> str:
     """The name of a file without folder and end."""
     return os.path.splitext(os.path.basename(file))[0]

@@ -83,8 +83,7 @@ def literal(one: object, type: object) -> str:
     if isinstance(one, tuple):
         return f"{path(type.scope)}::{identifier(one[-1])}"
     if isinstance(type, model.String):
-        return '"' + "".join(char if 32 <= ord(char) < 127 and char not in '"\\?' else f"\\{ord(char):03o}"
-                             for char in one) + '"'
+        return model.quoted(one)
     if type == model.Basic("char"):
         return f"static_cast<char>({ord(one)})"
     if type == model.Basic("boolean"):

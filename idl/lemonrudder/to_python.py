@@ -43,18 +43,6 @@ def member(name: str) -> str:
     return identifier(name, "self", *EXCEPTIONS)
 
 
-class Names:
-    """Sees to it that no two declarations have one name."""
-
-    def __init__(self) -> None:
-        self.taken: Dict[str, model.Declared] = {}
-
-    def take(self, name: str, one: model.Declared) -> None:
-        before = self.taken.setdefault(name, one)
-        if before is not one:
-            raise model.Refused([f"{one.file}:{one.line}: {one.idl} and {before.idl} are both {name} in Python"])
-
-
 def hint(type: object) -> str:
     """The annotation of a type."""
     if isinstance(type, model.Declared):
@@ -270,7 +258,7 @@ def module_name(base: str) -> str:
 
 def module_of(unit: model.Unit) -> str:
     """FILE_idl.py."""
-    names = Names()
+    names = model.Names("Python")
     lines = [HEAD.format(file=os.path.basename(unit.file)).rstrip(), *imports_of(unit)]
     for one in unit.declarations:
         for _, name in names_of(one):

@@ -6,6 +6,7 @@ Python; the bank of examples/bank.idl is served and called in each language.
 from __future__ import annotations
 
 import asyncio
+import atexit
 import contextlib
 import functools
 import importlib
@@ -16,7 +17,7 @@ import subprocess
 import sys
 import tempfile
 import unittest
-from collections.abc import AsyncIterator, Iterator
+from collections.abc import AsyncIterator, Iterable, Iterator
 from typing import Any
 
 from tests import base
@@ -35,16 +36,13 @@ SECONDS = 600
 TYPES, VALUES = 24, 12
 # .. and of those that go through C++, which compiles slowly
 CPP_TYPES = 4
-LANGUAGES = ("python", "cpp", "types")
+LANGUAGES = ("python", "cpp", "c", "rust", "types")
 ORB = ["-lomniORB4", "-lomnithread"]
 EMBED = os.path.join(ROOT, "tests", "embed")
 EXAMPLES = os.path.join(ROOT, "examples")
 FOLDER = tempfile.TemporaryDirectory(prefix="idl")
+atexit.register(FOLDER.cleanup)
 sys.path.insert(0, FOLDER.name)
-
-
-def tearDownModule() -> None:
-    FOLDER.cleanup()
 
 
 def run(*words: str, seconds: int = SECONDS, **options: Any) -> str:
@@ -71,12 +69,12 @@ def backend(idl_file: str, language: str) -> None:
     run(*words, f"-C{FOLDER.name}", idl_file)
 
 
-def compiled(compiler: str, name: str, *sources: str) -> str:
+def compiled(compiler: str, name: str, *sources: str, flags: Iterable[str] = ()) -> str:
     """A program in C or C++ over the library, compiled in the folder, without a warning."""
     program = os.path.join(FOLDER.name, name)
-    standard = "-std=c++17" if "++" in compiler else "-std=c11"
+    standard = ["-std=c++17"] if "++" in compiler else ["-std=c11", "-Wpedantic", "-Wconversion"]
     archive = os.path.join(library(), "lib", "liblemonrudder.a")
-    run(tool(compiler), standard, "-Wall", "-Wextra", "-Werror", f"-I{FOLDER.name}",
+    run(tool(compiler), *standard, "-Wall", "-Wextra", "-Werror", *flags, f"-I{FOLDER.name}",
         f"-I{os.path.join(ROOT, 'embed', 'include')}", *sources, archive, "-o", program)
     return program
 
@@ -302,6 +300,12 @@ class Echoes:
         return type("EchoServant", (getattr(self.module, f"_POA_{self.interface}"),), methods)()
 
 
+@functools.lru_cache(maxsize=None)
+def echoes_of(seed: int, count: int) -> Echoes:
+    """The echoes of a seed, compiled once."""
+    return Echoes(seed, count)
+
+
 async def exchanged(test: unittest.TestCase, echoes: Echoes, seed: int, reference: str, behind: str = "") -> None:
     """Each value comes back from an object, and through it from another one, or from a servant in Python."""
     dice = random.Random(seed)
@@ -333,7 +337,7 @@ class RandomTypes(unittest.TestCase):
     @base.each_seed(1, 1)
     def test_exchange(self, seed: int) -> None:
         """What goes comes back, in either direction, and by exceptions."""
-        echoes = Echoes(seed, TYPES)
+        echoes = echoes_of(seed, TYPES)
         with serving(echoes.program, "-ORBendPoint", "giop:tcp:127.0.0.1:") as reference:
             asyncio.run(exchanged(self, echoes, seed, reference))
 

@@ -71,7 +71,7 @@ def sequence(name: str, of: Kind, bound: int) -> Tuple[Kind, str]:
         return many(dice, module, of, dice.choice([0, 1, bound or 6, dice.randrange(bound or 6)]))
 
     inner = f"{of.idl}, {bound}" if bound else of.idl
-    return Kind(name, value), f"typedef sequence<{inner}> {name};"
+    return Kind(name, value), f"typedef sequence<{inner} > {name};"
 
 
 def array(name: str, of: Kind, size: int) -> Tuple[Kind, str]:
@@ -124,7 +124,8 @@ def declared(dice: random.Random, name: str, kinds: List[Kind]) -> Tuple[Kind, s
     elif how == 2:
         made = enum(name, dice.choice([1, 2, 6, 255, 256]))
     elif how == 3:
-        switches = [one for one in kinds if one.idl in SWITCHES or one.is_enum]
+        # (a union has fewer members than its discriminator has labels)
+        switches = [one for one in kinds if (one.idl in SWITCHES or one.is_enum) and len(one.labels(None)) > 1]
         made = union(name, dice.choice(switches), some + [dice.choice(inner)], dice.random() < 0.5)
     else:
         made = structure(name, some)

@@ -1,0 +1,947 @@
+/* What is declared in lemonrudder_idl.h. */
+#define _DEFAULT_SOURCE
+#include "lemonrudder_idl.h"
+
+#include <errno.h>
+#include <netdb.h>
+#include <netinet/in.h>
+#include <netinet/tcp.h>
+#include <poll.h>
+#include <stdio.h>
+#include <stdlib.h>
+#include <sys/socket.h>
+#include <sys/time.h>
+#include <time.h>
+#include <unistd.h>
+
+/* How each sequence is laid out. */
+struct sequence {
+  uint32_t length;
+  void *buffer;
+};
+
+#define BASIC(NAME, KIND, TYPE) const lr_idl_type lr_idl_##NAME##__type = {.kind = KIND, .size = sizeof(TYPE)}
+BASIC(boolean, LR_IDL_BOOLEAN, bool);
+BASIC(char, LR_IDL_CHAR, char);
+BASIC(octet, LR_IDL_OCTET, uint8_t);
+BASIC(short, LR_IDL_SHORT, int16_t);
+BASIC(ushort, LR_IDL_USHORT, uint16_t);
+BASIC(long, LR_IDL_LONG, int32_t);
+BASIC(ulong, LR_IDL_ULONG, uint32_t);
+BASIC(longlong, LR_IDL_LONGLONG, int64_t);
+BASIC(ulonglong, LR_IDL_ULONGLONG, uint64_t);
+BASIC(float, LR_IDL_FLOAT, float);
+BASIC(double, LR_IDL_DOUBLE, double);
+BASIC(string, LR_IDL_STRING, char *);
+
+#define SEQUENCE_OF(TYPE) {.kind = LR_IDL_SEQUENCE, .size = sizeof(struct sequence), .inner = (TYPE)}
+static const lr_idl_type octets_type = SEQUENCE_OF(&lr_idl_octet__type);
+static const lr_idl_member profile_members[] = {{&lr_idl_ulong__type, offsetof(lr_idl_profile, tag), 0, false},
+                                                {&octets_type, offsetof(lr_idl_profile, data), 0, false}};
+static const lr_idl_type profile_type = {LR_IDL_STRUCT, 2, sizeof(lr_idl_profile), NULL, profile_members};
+static const lr_idl_type profiles_type = SEQUENCE_OF(&profile_type);
+static const lr_idl_member reference_members[] = {
+    {&lr_idl_string__type, offsetof(lr_idl_reference, type_id), 0, false},
+    {&profiles_type, offsetof(lr_idl_reference, profiles), 0, false}};
+const lr_idl_type lr_idl_reference__type = {LR_IDL_STRUCT, 2, sizeof(lr_idl_reference), NULL, reference_members};
+
+/* ---- values ---- */
+
+/* (Pointers to any type are laid out alike, and copied as octets, since they have many types.) */
+static char *text_at(const void *value) {
+  char *text;
+  memcpy(&text, value, sizeof text);
+  return text;
+}
+
+static struct sequence sequence_at(const void *value) {
+  struct sequence found;
+  memcpy(&found, value, sizeof found);
+  return found;
+}
+
+static void *part_of(const void *value, size_t offset) { return (unsigned char *)(uintptr_t)value + offset; }
+
+/* The number of a value that may discriminate a union, with its sign. */
+static uint64_t number_of(const lr_idl_type *type, const void *value) {
+  switch (type->kind) {
+    case LR_IDL_BOOLEAN: return *(const bool *)value ? 1 : 0;
+    case LR_IDL_CHAR:
+    case LR_IDL_OCTET: return *(const unsigned char *)value;
+    case LR_IDL_SHORT: return (uint64_t)*(const int16_t *)value;
+    case LR_IDL_USHORT: return *(const uint16_t *)value;
+    case LR_IDL_LONG: return (uint64_t)*(const int32_t *)value;
+    case LR_IDL_LONGLONG: return (uint64_t)*(const int64_t *)value;
+    case LR_IDL_ULONGLONG: return *(const uint64_t *)value;
+    default: break;
+  }
+  uint32_t number; /* (of an enum too, which is as large) */
+  memcpy(&number, value, sizeof number);
+  return number;
+}
+
+/* The member that the discriminator of a union selects; NULL where there is none. */
+static const lr_idl_member *selected(const lr_idl_type *type, const void *value) {
+  uint64_t label = number_of(type->inner, value);
+  const lr_idl_member *found = NULL;
+  for (const lr_idl_member *one = type->members; one < type->members + type->count; one++) {
+    if (!one->is_default && one->label == label) return one;
+    if (one->is_default) found = one;
+  }
+  return found;
+}
+
+/* ---- freeing ---- */
+
+static void free_value(const lr_idl_type *type, void *value);
+
+/* Frees what the members of a sequence or an array own. */
+static void free_members(const lr_idl_type *member, uint32_t count, void *first) {
+  for (uint32_t index = 0; member->kind > LR_IDL_ENUM && index < count; index++)
+    free_value(member, part_of(first, index * member->size));
+}
+
+static void free_struct(const lr_idl_type *type, void *value) {
+  for (uint32_t index = 0; index < type->count; index++)
+    free_value(type->members[index].type, part_of(value, type->members[index].offset));
+}
+
+static void free_value(const lr_idl_type *type, void *value) {
+  if (type->kind == LR_IDL_STRING) free(text_at(value));
+  if (type->kind == LR_IDL_ARRAY) free_members(type->inner, type->count, value);
+  if (type->kind == LR_IDL_STRUCT) free_struct(type, value);
+  if (type->kind == LR_IDL_SEQUENCE) {
+    struct sequence some = sequence_at(value);
+    if (some.buffer != NULL) free_members(type->inner, some.length, some.buffer);
+    free(some.buffer);
+  }
+  if (type->kind == LR_IDL_UNION) {
+    const lr_idl_member *member = selected(type, value);
+    if (member != NULL) free_value(member->type, part_of(value, member->offset));
+  }
+}
+
+void lr_idl_free(const lr_idl_type *type, void *value) {
+  free_value(type, value);
+  memset(value, 0, type->size);
+}
+
+/* ---- copying ---- */
+
+/* Copies a value into one that is all zero. At an error that owns what was copied. */
+static int64_t copy_value(const lr_idl_type *type, const void *from, void *to);
+
+static int64_t copy_text(const void *from, void *to) {
+  const char *text = text_at(from);
+  if (text == NULL) return LR_OK;
+  char *made = malloc(strlen(text) + 1);
+  if (made == NULL) return LR_E_MEMORY;
+  memcpy(made, text, strlen(text) + 1);
+  memcpy(to, &made, sizeof made);
+  return LR_OK;
+}
+
+/* Copies the members of a sequence or an array. */
+static int64_t copy_members(const lr_idl_type *member, uint32_t count, const void *from, void *to) {
+  int64_t done = LR_OK;
+  for (uint32_t index = 0; done == LR_OK && index < count; index++)
+    done = copy_value(member, part_of(from, index * member->size), part_of(to, index * member->size));
+  return done;
+}
+
+static int64_t copy_sequence(const lr_idl_type *member, const void *from, void *to) {
+  struct sequence some = sequence_at(from);
+  if (some.buffer == NULL || some.length == 0) return LR_OK;
+  struct sequence made = {some.length, malloc(some.length * member->size)};
+  if (made.buffer == NULL) return LR_E_MEMORY;
+  memset(made.buffer, 0, some.length * member->size);
+  memcpy(to, &made, sizeof made);
+  return copy_members(member, some.length, some.buffer, made.buffer);
+}
+
+static int64_t copy_struct(const lr_idl_type *type, const void *from, void *to) {
+  int64_t done = LR_OK;
+  for (uint32_t index = 0; done == LR_OK && index < type->count; index++) {
+    const lr_idl_member *member = &type->members[index];
+    done = copy_value(member->type, part_of(from, member->offset), part_of(to, member->offset));
+  }
+  return done;
+}
+
+static int64_t copy_value(const lr_idl_type *type, const void *from, void *to) {
+  if (type->kind == LR_IDL_STRING) return copy_text(from, to);
+  if (type->kind == LR_IDL_SEQUENCE) return copy_sequence(type->inner, from, to);
+  if (type->kind == LR_IDL_ARRAY) return copy_members(type->inner, type->count, from, to);
+  if (type->kind == LR_IDL_STRUCT) return copy_struct(type, from, to);
+  const lr_idl_member *member = type->kind == LR_IDL_UNION ? selected(type, from) : NULL;
+  memcpy(to, from, type->kind == LR_IDL_UNION ? type->inner->size : type->size);
+  return member == NULL ? LR_OK : copy_value(member->type, part_of(from, member->offset), part_of(to, member->offset));
+}
+
+int64_t lr_idl_copy(const lr_idl_type *type, const void *from, void *to) {
+  memset(to, 0, type->size);
+  int64_t done = copy_value(type, from, to);
+  if (done < 0) lr_idl_free(type, to);
+  return done;
+}
+
+/* ---- reading ---- */
+
+struct reader {
+  const void *octets;
+  size_t size;
+  lr_place *place;
+};
+
+/* Reads a value into one that is all zero. At an error it owns what was read of it. */
+static int64_t get_value(const struct reader *in, const lr_idl_type *type, void *value);
+
+static int64_t get_boolean(const struct reader *in, bool *value) {
+  uint8_t octet = 0;
+  int64_t done = lr_get_boolean(in->octets, in->size, in->place, &octet);
+  *value = octet != 0;
+  return done;
+}
+
+static int64_t get_enum(const struct reader *in, const lr_idl_type *type, void *value) {
+  uint32_t number = 0;
+  int64_t done = lr_get_ulong(in->octets, in->size, in->place, &number);
+  if (done == LR_OK && number >= type->count) return LR_E_VALUE;
+  memcpy(value, &number, sizeof number);
+  return done;
+}
+
+static int64_t get_text(const struct reader *in, const lr_idl_type *type, void *value) {
+  uint64_t start, length;
+  int64_t done = lr_get_string(in->octets, in->size, in->place, &start, &length);
+  if (done < 0) return done;
+  if (type->count != 0 && length > type->count) return LR_E_VALUE;
+  char *text = malloc((size_t)length + 1);
+  if (text == NULL) return LR_E_MEMORY;
+  memcpy(text, (const char *)in->octets + start, (size_t)length);
+  text[length] = 0;
+  memcpy(value, &text, sizeof text);
+  return LR_OK;
+}
+
+static int64_t get_octets(const struct reader *in, const lr_idl_type *type, void *value) {
+  uint64_t start, length;
+  int64_t done = lr_get_octets(in->octets, in->size, in->place, &start, &length);
+  if (done < 0 || length == 0) return done;
+  if (type->count != 0 && length > type->count) return LR_E_VALUE;
+  struct sequence some = {(uint32_t)length, malloc((size_t)length)};
+  if (some.buffer == NULL) return LR_E_MEMORY;
+  memcpy(some.buffer, (const unsigned char *)in->octets + start, (size_t)length);
+  memcpy(value, &some, sizeof some);
+  return LR_OK;
+}
+
+/* Makes room for more members of a sequence, so many in all at most, which are all zero. (It grows by what is read, as
+ * octets that are none may say any count.) */
+static int64_t widen(struct sequence *some, uint32_t *room, uint32_t most, size_t size) {
+  uint32_t more = *room > most / 2 ? most : *room == 0 ? 8 : 2 * *room;
+  if (more > most) more = most;
+  if (more > SIZE_MAX / size) return LR_E_MEMORY;
+  void *buffer = realloc(some->buffer, more * size);
+  if (buffer == NULL) return LR_E_MEMORY;
+  memset(part_of(buffer, *room * size), 0, (more - *room) * size);
+  some->buffer = buffer;
+  *room = more;
+  return LR_OK;
+}
+
+static int64_t get_sequence(const struct reader *in, const lr_idl_type *type, void *value) {
+  struct sequence some = {0, NULL};
+  uint32_t count = 0, room = 0;
+  int64_t done = lr_get_ulong(in->octets, in->size, in->place, &count);
+  if (done == LR_OK && type->count != 0 && count > type->count) return LR_E_VALUE;
+  while (done == LR_OK && some.length < count) {
+    if (some.length == room) done = widen(&some, &room, count, type->inner->size);
+    if (done == LR_OK) done = get_value(in, type->inner, part_of(some.buffer, some.length++ * type->inner->size));
+  }
+  memcpy(value, &some, sizeof some);
+  return done;
+}
+
+static int64_t get_array(const struct reader *in, const lr_idl_type *type, void *value) {
+  int64_t done = LR_OK;
+  for (uint32_t index = 0; done == LR_OK && index < type->count; index++)
+    done = get_value(in, type->inner, part_of(value, index * type->inner->size));
+  return done;
+}
+
+static int64_t get_struct(const struct reader *in, const lr_idl_type *type, void *value) {
+  int64_t done = LR_OK;
+  for (uint32_t index = 0; done == LR_OK && index < type->count; index++)
+    done = get_value(in, type->members[index].type, part_of(value, type->members[index].offset));
+  return done;
+}
+
+static int64_t get_union(const struct reader *in, const lr_idl_type *type, void *value) {
+  int64_t done = get_value(in, type->inner, value);
+  if (done < 0) return done;
+  const lr_idl_member *member = selected(type, value);
+  return member == NULL ? LR_OK : get_value(in, member->type, part_of(value, member->offset));
+}
+
+static int64_t get_value(const struct reader *in, const lr_idl_type *type, void *value) {
+  const void *octets = in->octets;
+  switch (type->kind) {
+    case LR_IDL_BOOLEAN: return get_boolean(in, value);
+    case LR_IDL_CHAR: return lr_get_char(octets, in->size, in->place, value);
+    case LR_IDL_OCTET: return lr_get_octet(octets, in->size, in->place, value);
+    case LR_IDL_SHORT: return lr_get_short(octets, in->size, in->place, value);
+    case LR_IDL_USHORT: return lr_get_ushort(octets, in->size, in->place, value);
+    case LR_IDL_LONG: return lr_get_long(octets, in->size, in->place, value);
+    case LR_IDL_ULONG: return lr_get_ulong(octets, in->size, in->place, value);
+    case LR_IDL_LONGLONG: return lr_get_longlong(octets, in->size, in->place, value);
+    case LR_IDL_ULONGLONG: return lr_get_ulonglong(octets, in->size, in->place, value);
+    case LR_IDL_FLOAT: return lr_get_float(octets, in->size, in->place, value);
+    case LR_IDL_DOUBLE: return lr_get_double(octets, in->size, in->place, value);
+    case LR_IDL_ENUM: return get_enum(in, type, value);
+    case LR_IDL_STRING: return get_text(in, type, value);
+    case LR_IDL_SEQUENCE: return (type->inner->kind == LR_IDL_OCTET ? get_octets : get_sequence)(in, type, value);
+    case LR_IDL_ARRAY: return get_array(in, type, value);
+    case LR_IDL_STRUCT: return get_struct(in, type, value);
+    default: return get_union(in, type, value);
+  }
+}
+
+int64_t lr_idl_get(const lr_idl_type *type, const void *octets, size_t size, lr_place *place, void *value) {
+  struct reader in = {octets, size, place};
+  lr_place before = *place;
+  memset(value, 0, type->size);
+  int64_t done = get_value(&in, type, value);
+  if (done == LR_OK) return LR_OK;
+  lr_idl_free(type, value);
+  *place = before;
+  return done;
+}
+
+/* ---- writing ---- */
+
+struct writer {
+  void *room;
+  size_t size;
+  lr_place *place;
+};
+
+static int64_t put_value(const struct writer *out, const lr_idl_type *type, const void *value);
+
+static int64_t put_enum(const struct writer *out, const lr_idl_type *type, const void *value) {
+  uint64_t number = number_of(type, value);
+  return number < type->count ? lr_put_ulong(out->room, out->size, out->place, (uint32_t)number) : LR_E_RANGE;
+}
+
+static int64_t put_text(const struct writer *out, const lr_idl_type *type, const void *value) {
+  const char *text = text_at(value);
+  size_t length = text == NULL ? 0 : strlen(text);
+  if (type->count != 0 && length > type->count) return LR_E_RANGE;
+  return lr_put_string(out->room, out->size, out->place, text, length);
+}
+
+/* Writes the members of a sequence or an array. */
+static int64_t put_members(const struct writer *out, const lr_idl_type *member, uint32_t count, const void *first) {
+  int64_t done = LR_OK;
+  for (uint32_t index = 0; done == LR_OK && index < count; index++)
+    done = put_value(out, member, part_of(first, index * member->size));
+  return done;
+}
+
+static int64_t put_sequence(const struct writer *out, const lr_idl_type *type, const void *value) {
+  struct sequence some = sequence_at(value);
+  if ((type->count != 0 && some.length > type->count) || (some.length > 0 && some.buffer == NULL)) return LR_E_RANGE;
+  if (type->inner->kind == LR_IDL_OCTET)
+    return lr_put_octets(out->room, out->size, out->place, some.buffer, some.length);
+  int64_t done = lr_put_ulong(out->room, out->size, out->place, some.length);
+  return done < 0 ? done : put_members(out, type->inner, some.length, some.buffer);
+}
+
+static int64_t put_struct(const struct writer *out, const lr_idl_type *type, const void *value) {
+  int64_t done = LR_OK;
+  for (uint32_t index = 0; done == LR_OK && index < type->count; index++)
+    done = put_value(out, type->members[index].type, part_of(value, type->members[index].offset));
+  return done;
+}
+
+static int64_t put_union(const struct writer *out, const lr_idl_type *type, const void *value) {
+  int64_t done = put_value(out, type->inner, value);
+  if (done < 0) return done;
+  const lr_idl_member *member = selected(type, value);
+  return member == NULL ? LR_OK : put_value(out, member->type, part_of(value, member->offset));
+}
+
+static int64_t put_value(const struct writer *out, const lr_idl_type *type, const void *value) {
+  void *room = out->room;
+  switch (type->kind) {
+    case LR_IDL_BOOLEAN: return lr_put_boolean(room, out->size, out->place, *(const bool *)value);
+    case LR_IDL_CHAR: return lr_put_char(room, out->size, out->place, *(const uint8_t *)value);
+    case LR_IDL_OCTET: return lr_put_octet(room, out->size, out->place, *(const uint8_t *)value);
+    case LR_IDL_SHORT: return lr_put_short(room, out->size, out->place, *(const int16_t *)value);
+    case LR_IDL_USHORT: return lr_put_ushort(room, out->size, out->place, *(const uint16_t *)value);
+    case LR_IDL_LONG: return lr_put_long(room, out->size, out->place, *(const int32_t *)value);
+    case LR_IDL_ULONG: return lr_put_ulong(room, out->size, out->place, *(const uint32_t *)value);
+    case LR_IDL_LONGLONG: return lr_put_longlong(room, out->size, out->place, *(const int64_t *)value);
+    case LR_IDL_ULONGLONG: return lr_put_ulonglong(room, out->size, out->place, *(const uint64_t *)value);
+    case LR_IDL_FLOAT: return lr_put_float(room, out->size, out->place, *(const float *)value);
+    case LR_IDL_DOUBLE: return lr_put_double(room, out->size, out->place, *(const double *)value);
+    case LR_IDL_ENUM: return put_enum(out, type, value);
+    case LR_IDL_STRING: return put_text(out, type, value);
+    case LR_IDL_SEQUENCE: return put_sequence(out, type, value);
+    case LR_IDL_ARRAY: return put_members(out, type->inner, type->count, value);
+    case LR_IDL_STRUCT: return put_struct(out, type, value);
+    default: return put_union(out, type, value);
+  }
+}
+
+int64_t lr_idl_put(const lr_idl_type *type, void *room, size_t size, lr_place *place, const void *value) {
+  struct writer out = {room, size, place};
+  lr_place before = *place;
+  int64_t done = put_value(&out, type, value);
+  if (done < 0) *place = before;
+  return done;
+}
+
+/* ---- several values ---- */
+
+/* Octets that are written, in an order of ours and aligned from their first one. */
+struct body {
+  unsigned char *octets;
+  size_t room;
+  lr_place place; /* whose `next` is how many there are */
+};
+
+/* Writes a value behind the others, in as much room as it takes. */
+static int64_t append(struct body *out, const lr_idl_type *type, const void *value) {
+  for (;;) {
+    int64_t done = lr_idl_put(type, out->octets, out->room, &out->place, value);
+    if (done != LR_E_ROOM) return done;
+    size_t room = out->room == 0 ? 256 : 2 * out->room;
+    unsigned char *octets = room > out->room ? realloc(out->octets, room) : NULL;
+    if (octets == NULL) return LR_E_MEMORY;
+    out->octets = octets;
+    out->room = room;
+  }
+}
+
+static int64_t append_all(struct body *out, const lr_idl_types *types, const void *const *values) {
+  int64_t done = LR_OK;
+  for (size_t index = 0; done == LR_OK && index < types->count; index++)
+    done = append(out, types->types[index], values[index]);
+  return done;
+}
+
+/* How much of a block a value takes, so that the next one is aligned. */
+static size_t taken_by(size_t size) {
+  const size_t alignment = _Alignof(max_align_t);
+  return (size + alignment - 1) / alignment * alignment;
+}
+
+static size_t taken_by_all(const lr_idl_types *types) {
+  size_t size = 0;
+  for (size_t index = 0; index < types->count; index++) size += taken_by(types->types[index]->size);
+  return size;
+}
+
+/* Values of types, all zero: pointers to them, and behind these the values, in one block. NULL where there is no
+ * memory. */
+static void **new_values(const lr_idl_types *types) {
+  size_t next = taken_by((types->count + 1) * sizeof(void *)), size = next + taken_by_all(types);
+  void **values = malloc(size);
+  if (values == NULL) return NULL;
+  memset(values, 0, size);
+  for (size_t index = 0; index < types->count; index++) {
+    values[index] = part_of(values, next);
+    next += taken_by(types->types[index]->size);
+  }
+  return values;
+}
+
+static void free_values(const lr_idl_types *types, void **values) {
+  for (size_t index = 0; values != NULL && index < types->count; index++)
+    lr_idl_free(types->types[index], values[index]);
+  free(values);
+}
+
+static int64_t get_values(const lr_idl_types *types, const struct reader *in, void *const *values) {
+  int64_t done = LR_OK;
+  for (size_t index = 0; done == LR_OK && index < types->count; index++)
+    done = get_value(in, types->types[index], values[index]);
+  return done;
+}
+
+/* ---- references ---- */
+
+static unsigned hex_digit(char digit) {
+  return (unsigned)(digit <= '9' ? digit - '0' : (digit | 32) - 'a' + 10);
+}
+
+int64_t lr_idl_reference__parse(lr_idl_reference *reference, const char *text) {
+  lr_ior ior = LR_INIT;
+  int64_t done = lr_ior_parse(&ior, text, strlen(text));
+  lr_ior_close(&ior);
+  if (done < 0) return done;
+  const size_t size = strlen(text += sizeof "IOR:" - 1) / 2;
+  unsigned char *octets = malloc(size);
+  if (octets == NULL) return LR_E_MEMORY;
+  for (size_t index = 0; index < size; index++)
+    octets[index] = (unsigned char)(hex_digit(text[2 * index]) << 4 | hex_digit(text[2 * index + 1]));
+  lr_place place = {.next = 1, .order = octets[0]};
+  done = lr_idl_get(&lr_idl_reference__type, octets, size, &place, reference);
+  free(octets);
+  return done;
+}
+
+/* The digits of octets behind "IOR:"; NULL where there is no memory. */
+static char *printed(const unsigned char *octets, size_t size) {
+  const size_t start = sizeof "IOR:" - 1;
+  char *text = malloc(start + 2 * size + 1);
+  if (text == NULL) return NULL;
+  memcpy(text, "IOR:", start);
+  for (size_t index = 0; index < size; index++) {
+    text[start + 2 * index] = "0123456789abcdef"[octets[index] >> 4];
+    text[start + 2 * index + 1] = "0123456789abcdef"[octets[index] & 15];
+  }
+  text[start + 2 * size] = 0;
+  return text;
+}
+
+int64_t lr_idl_reference__print(const lr_idl_reference *reference, char **text) {
+  struct body out = {NULL, 0, {0, 0, LR_ORDER_BIG, 0}};
+  const uint8_t order = LR_ORDER_BIG;
+  int64_t done = append(&out, &lr_idl_octet__type, &order);
+  if (done == LR_OK) done = append(&out, &lr_idl_reference__type, reference);
+  if (done == LR_OK && (*text = printed(out.octets, (size_t)out.place.next)) == NULL) done = LR_E_MEMORY;
+  free(out.octets);
+  return done;
+}
+
+/* ---- servants ---- */
+
+/* Declares the exceptions of an operation, and adds it. */
+static int64_t add_operation(lr_catalogue *catalogue, const lr_idl_offer *offer, const lr_idl_operation *operation) {
+  size_t name_size = strlen(operation->name);
+  int64_t done = LR_OK;
+  if (operation->is_raw)
+    return lr_catalogue_raw_operation(catalogue, offer->key, offer->key_size, operation->name, name_size);
+  for (size_t index = 0; done == LR_OK && index < operation->raise_count; index++) {
+    const lr_idl_exception *raised = operation->raises[index];
+    done = lr_catalogue_exception(catalogue, raised->id, strlen(raised->id), raised->codes, raised->codes_size);
+  }
+  if (done < 0) return done;
+  return lr_catalogue_operation(catalogue, offer->key, offer->key_size, operation->name, name_size,
+                                operation->arguments.codes, operation->arguments.codes_size,
+                                operation->results.codes, operation->results.codes_size);
+}
+
+int64_t lr_idl_add(lr_catalogue *catalogue, const lr_idl_offer *offer) {
+  const lr_idl_interface *interface = offer->interface;
+  int64_t done = lr_catalogue_object(catalogue, offer->key, offer->key_size);
+  if (done < 0) return done;
+  done = lr_catalogue_repository_ids(catalogue, offer->key, offer->key_size, interface->ids, interface->ids_size);
+  for (size_t index = 0; done == LR_OK && index < interface->method_count; index++)
+    done = add_operation(catalogue, offer, interface->methods[index].operation);
+  if (done == LR_OK) return LR_OK;
+  lr_catalogue_remove(catalogue, offer->key, offer->key_size);
+  /* (what is refused forgets the exceptions that were declared for it) */
+  lr_catalogue_operation(catalogue, offer->key, offer->key_size, LR_TEXT("none"), NULL, 0, NULL, 0);
+  return done;
+}
+
+const lr_idl_offer *lr_idl_find(const lr_idl_offer *offers, size_t count, lr_server *server, const lr_request *asked) {
+  const lr_idl_offer *found = NULL;
+  void *key = malloc((size_t)asked->key_size + 1);
+  if (key == NULL || lr_server_part(server, asked->ticket, LR_PART_KEY, key, (size_t)asked->key_size) < 0) count = 0;
+  for (size_t index = 0; found == NULL && index < count; index++)
+    if (offers[index].key_size == asked->key_size && memcmp(offers[index].key, key, offers[index].key_size) == 0)
+      found = &offers[index];
+  free(key);
+  return found;
+}
+
+/* The method of a name; NULL where there is none. */
+static const lr_idl_method *method_of(const lr_idl_interface *interface, const void *name, size_t size) {
+  const lr_idl_method *end = interface->methods + interface->method_count;
+  for (const lr_idl_method *method = interface->methods; method < end; method++)
+    if (strlen(method->operation->name) == size && memcmp(method->operation->name, name, size) == 0) return method;
+  return NULL;
+}
+
+/* Reads the arguments, and has the servant perform it. */
+static int64_t perform_by(const lr_idl_method *method, const void *servant, lr_idl_call *call,
+                          const struct reader *in) {
+  const lr_idl_types *types = &method->operation->arguments;
+  void **values = new_values(types);
+  int64_t done = values == NULL ? LR_E_MEMORY : get_values(types, in, values);
+  call->operation = method->operation;
+  if (done == LR_OK) {
+    done = method->perform(servant, call, values);
+    if (done == LR_E_OUTCOME) lr_server_system(call->server, call->ticket, LR_EX_UNKNOWN, 0, LR_COMPLETED_MAYBE);
+  } else {
+    lr_server_refuse(call->server, call->ticket, done == LR_E_MEMORY ? LR_EX_NO_MEMORY : LR_EX_MARSHAL, 0);
+  }
+  free_values(types, values);
+  return done;
+}
+
+int64_t lr_idl_perform(const lr_idl_offer *offer, lr_server *server, const lr_request *asked) {
+  lr_idl_call call = {server, asked->ticket, NULL};
+  if (asked->is_refused) {
+    int64_t refused = lr_server_refuse(server, asked->ticket, asked->refusal, 0);
+    return refused < 0 ? refused : LR_E_NONE;
+  }
+  size_t name_size = (size_t)asked->operation_size, body_size = (size_t)asked->body_size;
+  int64_t done = lr_server_identify(server, asked->ticket);
+  if (done != 0) return done < 0 ? done : LR_OK;
+  unsigned char *octets = malloc(name_size + body_size + 1);
+  done = octets == NULL ? LR_E_MEMORY : lr_server_part(server, asked->ticket, LR_PART_OPERATION, octets, name_size);
+  if (done >= 0) done = lr_server_part(server, asked->ticket, LR_PART_BODY, octets + name_size, body_size);
+  if (done < 0) {
+    lr_server_refuse(server, asked->ticket, LR_EX_NO_MEMORY, 0);
+  } else {
+    const lr_idl_method *method = method_of(offer->interface, octets, name_size);
+    lr_place place = {asked->body_at, 0, asked->body_order, 0};
+    struct reader in = {octets + name_size, body_size, &place};
+    done = method == NULL ? LR_E_NONE : perform_by(method, offer->servant, &call, &in);
+  }
+  free(octets);
+  return done;
+}
+
+/* Answers INTERNAL where there are no values to answer by, and passes their error on. */
+static int64_t answered_by(const lr_idl_call *call, int64_t done) {
+  if (done != LR_E_MEMORY) lr_server_system(call->server, call->ticket, LR_EX_INTERNAL, 0, LR_COMPLETED_MAYBE);
+  return done;
+}
+
+int64_t lr_idl_answer(const lr_idl_call *call, const lr_idl_operation *operation, const void *const *results) {
+  struct body out = {NULL, 0, {0, 0, LR_ORDER_BIG, 0}};
+  if (call->operation != operation) return LR_E_OUTCOME;
+  int64_t done = append_all(&out, &operation->results, results);
+  if (done < 0)
+    done = answered_by(call, done);
+  else if (operation->is_raw)
+    done = lr_server_answer_raw(call->server, call->ticket, LR_REPLY_NO_EXCEPTION, LR_ORDER_BIG, out.octets,
+                                (size_t)out.place.next);
+  else
+    done = lr_server_answer(call->server, call->ticket, LR_ORDER_BIG, out.octets, (size_t)out.place.next);
+  free(out.octets);
+  return done;
+}
+
+static bool declares(const lr_idl_operation *operation, const lr_idl_exception *exception) {
+  for (size_t index = 0; index < operation->raise_count; index++)
+    if (operation->raises[index] == exception) return true;
+  return false;
+}
+
+int64_t lr_idl_raise(const lr_idl_call *call, const lr_idl_exception *exception, const void *members) {
+  struct body out = {NULL, 0, {0, 0, LR_ORDER_BIG, 0}};
+  if (!declares(call->operation, exception)) return LR_E_OUTCOME;
+  int64_t done = call->operation->is_raw ? append(&out, &lr_idl_string__type, &exception->id) : LR_OK;
+  if (done == LR_OK) done = append(&out, exception->type, members);
+  if (done < 0)
+    done = answered_by(call, done);
+  else if (call->operation->is_raw)
+    done = lr_server_answer_raw(call->server, call->ticket, LR_REPLY_USER_EXCEPTION, LR_ORDER_BIG, out.octets,
+                                (size_t)out.place.next);
+  else
+    done = lr_server_raise(call->server, call->ticket, exception->id, strlen(exception->id), LR_ORDER_BIG, out.octets,
+                           (size_t)out.place.next);
+  free(out.octets);
+  return done;
+}
+
+int64_t lr_idl_lacking(const lr_idl_call *call) {
+  return lr_server_system(call->server, call->ticket, LR_EX_NO_IMPLEMENT, 0, LR_COMPLETED_NO);
+}
+
+/* ---- a caller ---- */
+
+enum { RANDOM = 16, PIECE = 4096, WAIT = 100, FIRST_DELAY = 20, LAST_DELAY = 1000 };
+
+static uint64_t now(void) {
+  struct timespec time;
+  clock_gettime(CLOCK_REALTIME, &time);
+  return lr_moment((uint64_t)time.tv_sec, (uint32_t)time.tv_nsec);
+}
+
+/* Opens a client whose id nobody else has. */
+static int64_t open_client(lr_client *client) {
+  unsigned char random[RANDOM];
+  char id[2 * RANDOM];
+  if (getentropy(random, sizeof random) != 0) return LR_E_RANGE;
+  for (size_t index = 0; index < sizeof id; index++)
+    id[index] = "0123456789abcdef"[random[index / 2] >> (index % 2 * 4) & 15];
+  int64_t done = lr_client_open(client, id, sizeof id);
+  if (done == LR_OK) done = lr_client_set(client, LR_CLIENT_KEEP_TRANSIENT, 1);
+  return done;
+}
+
+int64_t lr_idl_caller_open(lr_idl_caller *caller, const char *host, uint16_t port) {
+  lr_idl_caller made = LR_IDL_CALLER;
+  if (caller->host != NULL) return LR_E_OPEN;
+  made.port = port;
+  made.patience = 60 * LR_SECOND;
+  made.host = malloc(strlen(host) + 1);
+  if (made.host == NULL) return LR_E_MEMORY;
+  memcpy(made.host, host, strlen(host) + 1);
+  int64_t done = open_client(&made.client);
+  if (done == LR_OK)
+    *caller = made;
+  else
+    lr_idl_caller_close(&made);
+  return done;
+}
+
+/* A part of a profile, with a NUL behind it; NULL where there is no memory. */
+static char *profile_part(lr_ior *ior, uint32_t index, uint32_t part, uint64_t size) {
+  char *octets = malloc((size_t)size + 1);
+  if (octets == NULL) return NULL;
+  octets[size] = 0;
+  if (lr_ior_part(ior, index, part, octets, (size_t)size) >= 0) return octets;
+  free(octets);
+  return NULL;
+}
+
+/* Opens a caller of what a profile of IIOP names. */
+static int64_t open_at(lr_idl_caller *caller, lr_ior *ior, uint32_t index, const lr_profile *profile) {
+  char *host = profile_part(ior, index, LR_IOR_HOST, profile->host_size);
+  char *key = profile_part(ior, index, LR_IOR_KEY, profile->key_size);
+  int64_t done = host == NULL || key == NULL ? LR_E_MEMORY : lr_idl_caller_open(caller, host, (uint16_t)profile->port);
+  free(host);
+  if (done < 0) {
+    free(key);
+    return done;
+  }
+  caller->key = key;
+  caller->key_size = (size_t)profile->key_size;
+  return LR_OK;
+}
+
+/* The first profile of IIOP. */
+static int64_t first_of(lr_ior *ior, uint32_t *index, lr_profile *profile) {
+  int64_t count = lr_ior_profiles(ior), done = LR_OK;
+  profile->is_iiop = 0;
+  for (*index = 0; done == LR_OK && *index < count; ++*index) {
+    done = lr_ior_profile(ior, *index, profile, sizeof *profile);
+    if (done == LR_OK && profile->is_iiop == 1) return LR_OK;
+  }
+  return done < 0 ? done : LR_E_REFERENCE;
+}
+
+int64_t lr_idl_caller_of(lr_idl_caller *caller, const char *reference) {
+  lr_ior ior = LR_INIT;
+  lr_profile profile;
+  uint32_t index = 0;
+  int64_t done = lr_ior_parse(&ior, reference, strlen(reference));
+  if (done == LR_OK) done = first_of(&ior, &index, &profile);
+  if (done == LR_OK) done = open_at(caller, &ior, index, &profile);
+  lr_ior_close(&ior);
+  return done;
+}
+
+static void hang_up(lr_idl_caller *caller) {
+  if (caller->fd >= 0) close(caller->fd);
+  caller->fd = -1;
+  lr_client_lost(&caller->client);
+}
+
+void lr_idl_caller_close(lr_idl_caller *caller) {
+  if (caller->host != NULL) hang_up(caller);
+  lr_client_close(&caller->client);
+  free(caller->host);
+  free(caller->key);
+  *caller = (lr_idl_caller)LR_IDL_CALLER;
+}
+
+/* A socket that is connected, or -1. To connect and to send it waits so long at most, in 100 ns. */
+static int connected_to(const struct addrinfo *address, uint64_t patience) {
+  const struct timeval limit = {(time_t)(patience / LR_SECOND), (suseconds_t)(patience % LR_SECOND / 10 | 1)};
+  int fd = socket(address->ai_family, address->ai_socktype, address->ai_protocol);
+  if (fd < 0) return -1;
+  setsockopt(fd, IPPROTO_TCP, TCP_NODELAY, &(int){1}, sizeof(int));
+  setsockopt(fd, SOL_SOCKET, SO_SNDTIMEO, &limit, sizeof limit);
+  if (connect(fd, address->ai_addr, address->ai_addrlen) == 0) return fd;
+  close(fd);
+  return -1;
+}
+
+/* Connects anew. False where that fails. */
+static bool call_up(lr_idl_caller *caller) {
+  struct addrinfo hints = {.ai_socktype = SOCK_STREAM}, *found = NULL;
+  char port[6];
+  snprintf(port, sizeof port, "%u", (unsigned)caller->port);
+  if (getaddrinfo(caller->host, port, &hints, &found) != 0) return false;
+  for (const struct addrinfo *one = found; one != NULL && caller->fd < 0; one = one->ai_next)
+    caller->fd = connected_to(one, caller->patience);
+  freeaddrinfo(found);
+  return caller->fd >= 0 && lr_client_connected(&caller->client, now()) == LR_OK;
+}
+
+static bool send_all(int fd, const unsigned char *octets, size_t size) {
+  for (size_t sent = 0; sent < size;) {
+    ssize_t count = send(fd, octets + sent, size - sent, MSG_NOSIGNAL);
+    if (count < 0 && errno != EINTR) return false;
+    if (count > 0) sent += (size_t)count;
+  }
+  return true;
+}
+
+/* Sends what is due, and takes what comes, for a while. False where the connection is over. */
+static bool talk(lr_idl_caller *caller) {
+  unsigned char room[PIECE];
+  int64_t size;
+  while ((size = lr_client_output(&caller->client, room, sizeof room)) > 0)
+    if (!send_all(caller->fd, room, (size_t)size)) return false;
+  struct pollfd waits = {caller->fd, POLLIN, 0};
+  int ready = poll(&waits, 1, WAIT);
+  if (ready == 0) return lr_client_resend(&caller->client, now()) == LR_OK;
+  if (ready < 0) return errno == EINTR;
+  ssize_t count = recv(caller->fd, room, sizeof room, 0);
+  return count > 0 && lr_client_feed(&caller->client, room, (size_t)count) >= 0 &&
+         lr_client_is_connected(&caller->client) == 1;
+}
+
+/* The completion of a call: 1, or 0 where it is pending. */
+static int64_t completed(lr_client *client, int64_t call, lr_completion *ended) {
+  int64_t done;
+  do done = lr_client_completed(client, ended, sizeof *ended);
+  while (done == 1 && ended->call != call);
+  return done;
+}
+
+/* Waits until a call has ended. */
+static int64_t settle(lr_idl_caller *caller, int64_t call, lr_completion *ended) {
+  long delay = FIRST_DELAY;
+  for (;;) {
+    int64_t done = lr_client_tick(&caller->client, now());
+    if (done == LR_OK) done = completed(&caller->client, call, ended);
+    if (done != 0) return done < 0 ? done : LR_OK;
+    if (caller->fd >= 0 ? talk(caller) : call_up(caller)) continue;
+    hang_up(caller);
+    struct timespec pause = {delay / 1000, delay % 1000 * 1000000};
+    nanosleep(&pause, NULL);
+    delay = 2 * delay < LAST_DELAY ? 2 * delay : LAST_DELAY;
+  }
+}
+
+/* ---- stubs ---- */
+
+void lr_idl_raised_free(lr_idl_raised *raised) {
+  if (raised->members != NULL) lr_idl_free(raised->exception->type, raised->members);
+  free(raised->members);
+  free(raised->id);
+  *raised = (lr_idl_raised)LR_IDL_RAISED;
+}
+
+/* Calls an operation by its arguments, and answers the number of the call. */
+static int64_t call_by(const lr_idl_object *object, const lr_idl_operation *operation, const void *const *arguments) {
+  struct body out = {NULL, 0, {0, 0, LR_ORDER_BIG, 0}};
+  lr_client *client = &object->caller->client;
+  const uint64_t moment = now(), expiration = moment + object->caller->patience;
+  const size_t name_size = strlen(operation->name);
+  int64_t done = append_all(&out, &operation->arguments, arguments);
+  const size_t size = (size_t)out.place.next;
+  if (done == LR_OK && (operation->is_raw || operation->is_oneway))
+    done = lr_client_call_raw(client, moment, expiration, operation->is_oneway ? LR_WISH_NONE : LR_WISH_FULL,
+                              object->key, object->key_size, operation->name, name_size, LR_ORDER_BIG, NULL, 0,
+                              out.octets, size);
+  else if (done == LR_OK)
+    done = lr_client_call(client, moment, expiration, object->key, object->key_size, operation->name, name_size,
+                          operation->arguments.codes, operation->arguments.codes_size, LR_ORDER_BIG, out.octets, size);
+  free(out.octets);
+  return done;
+}
+
+/* Frees the argument that a result takes the place of, if it is one. */
+static void free_replaced(const lr_idl_operation *operation, const void *const *arguments, void *place) {
+  for (size_t index = 0; index < operation->arguments.count; index++)
+    if (arguments[index] == place) lr_idl_free(operation->arguments.types[index], place);
+}
+
+/* Hands the results out, whose values are moved. */
+static void hand_out(const lr_idl_operation *operation, void **values, const void *const *arguments,
+                     void *const *results) {
+  for (size_t index = 0; index < operation->results.count; index++) {
+    const lr_idl_type *type = operation->results.types[index];
+    if (results[index] == NULL) continue;
+    free_replaced(operation, arguments, results[index]);
+    memcpy(results[index], values[index], type->size);
+    memset(values[index], 0, type->size);
+  }
+}
+
+static int64_t take_results(const lr_idl_operation *operation, const struct reader *in, const void *const *arguments,
+                            void *const *results) {
+  void **values = new_values(&operation->results);
+  int64_t done = values == NULL ? LR_E_MEMORY : get_values(&operation->results, in, values);
+  if (done == LR_OK && in->place->next != in->size) done = LR_E_VALUE;
+  if (done == LR_OK) hand_out(operation, values, arguments, results);
+  free_values(&operation->results, values);
+  return done;
+}
+
+/* The exception of an id that an operation declares; NULL where it declares none of that. */
+static const lr_idl_exception *declared(const lr_idl_operation *operation, const char *id) {
+  for (size_t index = 0; index < operation->raise_count; index++)
+    if (strcmp(operation->raises[index]->id, id) == 0) return operation->raises[index];
+  return NULL;
+}
+
+static int64_t take_exception(const lr_idl_operation *operation, const struct reader *in, lr_idl_raised *raised) {
+  int64_t done = get_value(in, &lr_idl_string__type, &raised->id);
+  if (done < 0) return done;
+  const lr_idl_exception *exception = declared(operation, raised->id);
+  if (exception == NULL) return LR_E_OUTCOME;
+  raised->members = malloc(exception->type->size);
+  if (raised->members == NULL) return LR_E_MEMORY;
+  raised->exception = exception;
+  done = lr_idl_get(exception->type, in->octets, in->size, in->place, raised->members);
+  if (done == LR_OK && in->place->next != in->size) done = LR_E_VALUE;
+  return done < 0 ? done : LR_ENDED_RAISED;
+}
+
+static int64_t take_system(const struct reader *in, lr_idl_raised *raised) {
+  int64_t done = get_value(in, &lr_idl_string__type, &raised->id);
+  if (done == LR_OK) done = get_value(in, &lr_idl_ulong__type, &raised->minor);
+  if (done == LR_OK) done = get_value(in, &lr_idl_ulong__type, &raised->completed);
+  if (done == LR_OK && raised->completed > LR_COMPLETED_MAYBE) done = LR_E_VALUE;
+  return done < 0 ? done : LR_ENDED_SYSTEM;
+}
+
+/* Takes what came of a call, by its body. */
+static int64_t take(const lr_idl_operation *operation, uint32_t how, const struct reader *in,
+                    const void *const *arguments, void *const *results, lr_idl_raised *raised) {
+  switch (how) {
+    case LR_ENDED_SENT: return LR_OK;
+    case LR_ENDED_RETURNED: return take_results(operation, in, arguments, results);
+    case LR_ENDED_RAISED: return take_exception(operation, in, raised);
+    case LR_ENDED_SYSTEM: return take_system(in, raised);
+    case LR_ENDED_EXPIRED: return LR_E_EXPIRED;
+    default: return LR_E_OUTCOME;
+  }
+}
+
+int64_t lr_idl_invoke(const lr_idl_object *object, const lr_idl_operation *operation, const void *const *arguments,
+                      void *const *results, lr_idl_raised *raised) {
+  lr_idl_raised found = LR_IDL_RAISED;
+  lr_completion ended = {0};
+  if (raised != NULL) lr_idl_raised_free(raised);
+  int64_t done = call_by(object, operation, arguments);
+  if (done >= 0) done = settle(object->caller, done, &ended);
+  if (done < 0) return done;
+  const size_t size = (size_t)ended.body_size;
+  void *octets = malloc(size + 1);
+  if (octets == NULL) return LR_E_MEMORY;
+  if (size > 0) lr_client_body(&object->caller->client, octets, size);
+  lr_place place = {ended.body_at, 0, ended.body_order, 0};
+  struct reader in = {octets, size, &place};
+  done = take(operation, ended.how, &in, arguments, results, &found);
+  free(octets);
+  if (raised != NULL)
+    *raised = found;
+  else
+    lr_idl_raised_free(&found);
+  return done;
+}
