@@ -16,6 +16,8 @@ pub const PADDING: u32 = 0x4c52_0000;
 const HEADER: usize = 12;
 const REQUEST: u8 = 0;
 const REPLY: u8 = 1;
+/// What stands in a message beside names and a body, with a few service contexts.
+const ROOM: usize = 128;
 
 /// Service contexts: the id and the data of each.
 pub type Contexts = Vec<(u32, Vec<u8>)>;
@@ -41,8 +43,9 @@ pub struct Body {
 
 /// A Request of this id. None, where it would be too long, or its body can't stand where it has to.
 pub fn request(head: &Head, id: u32, body: &Body) -> Option<Vec<u8>> {
+    let size = head.key.len() + head.operation.len() + body.octets.len();
     moved(body, head.version, |padding| {
-        let mut out = begun(head.version, head.order, REQUEST);
+        let mut out = begun(head.version, head.order, REQUEST, size);
         if head.version != Version::V12 {
             put_contexts(&mut out, &head.contexts, padding)?;
         }
@@ -74,7 +77,7 @@ pub fn reply(
     body: &Body,
 ) -> Option<Vec<u8>> {
     moved(body, version, |padding| {
-        let mut out = begun(version, order, REPLY);
+        let mut out = begun(version, order, REPLY, body.octets.len());
         if version != Version::V12 {
             put_contexts(&mut out, contexts, padding)?;
         }
@@ -115,11 +118,14 @@ fn moved(
     Some(octets)
 }
 
-/// A message that has its header, but for its size.
-fn begun(version: Version, order: Order, kind: u8) -> Writer {
+/// A message that has its header, but for its size, and room for so many octets and some numbers.
+fn begun(version: Version, order: Order, kind: u8, size: usize) -> Writer {
     let minor = [0, 1, 2][version as usize];
     let flags = u8::from(order == Order::Little);
-    Writer::of(order, [b"GIOP\x01".as_slice(), &[minor, flags, kind], &[0; 4]].concat())
+    let mut octets = Vec::with_capacity(size.min(LONGEST) + ROOM);
+    octets.extend_from_slice(b"GIOP\x01");
+    octets.extend_from_slice(&[minor, flags, kind, 0, 0, 0, 0]);
+    Writer::of(order, octets)
 }
 
 /// The octet that says which reply is wished (9.4.2.1).

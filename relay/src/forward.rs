@@ -1,11 +1,15 @@
 //! Requests and replies: from the messages that came, and what goes on of them.
 
 use crate::compose::{self, Body, Contexts, Head};
-use crate::pool::Reply;
+use crate::pool::{Places, Reply};
+use crate::reasons::Refusal;
 use crate::reference;
 use crate::store::{Key, Outcome};
+use crate::wire;
 use lemonrudder::cdr::{Reader, Writer};
 use lemonrudder::{Completed, Error, Ior, Message, Moment, Order, Status, Version, Wish};
+use std::net::SocketAddr;
+use std::sync::Arc;
 
 /// The ids of the service contexts that belong to a connection (CORBA 3.3 Part 2, 7.7.1): its code
 /// sets, and that its server may ask on it.
@@ -15,6 +19,8 @@ const BI_DIR_IIOP: u32 = 5;
 pub const FT_REQUEST: u32 = 13;
 /// How many service contexts are looked at.
 const CONTEXTS: usize = 32;
+/// How many profiles a forward may have.
+pub const PROFILES: usize = 16;
 /// How many octets a client's id may have.
 const CLIENT: usize = 256;
 
@@ -53,25 +59,24 @@ fn is(status: u32, wanted: Status) -> bool {
 ///
 /// # Errors
 ///
-/// The exception that it is answered by: it has more service contexts than are looked at, or no
-/// object key, or a FT_REQUEST that is not valid.
-pub fn request_of(message: &mut Message<'_>) -> Result<Request, Outcome> {
-    let refused = |name| Outcome::system(name, 0, Completed::No);
+/// Why it is refused: it has more service contexts than are looked at, or no object key, or a
+/// FT_REQUEST that is not valid.
+pub fn request_of(message: &mut Message<'_>) -> Result<Request, Refusal> {
     if message.contexts().len() > CONTEXTS {
-        return Err(refused("IMP_LIMIT"));
+        return Err(Refusal::Contexts);
     }
     let ft = message.ft_request().map(|said| Ft {
         key: Key { client: said.client_id.to_vec(), number: said.retention_id },
         expiration: said.expiration,
     });
     let contexts = message.contexts().collect::<Result<Contexts, Error>>();
-    let mut contexts = contexts.map_err(|_| refused("NO_MEMORY"))?;
+    let mut contexts = contexts.map_err(|_| Refusal::Memory)?;
     let is_keyed = contexts.iter().any(|(id, _)| *id == FT_REQUEST);
     if is_keyed && ft.as_ref().is_none_or(|ft| ft.key.client.len() > CLIENT) {
-        return Err(refused("BAD_CONTEXT"));
+        return Err(Refusal::FtRequest);
     }
     contexts.retain(|(id, _)| ![FT_REQUEST, BI_DIR_IIOP, compose::PADDING].contains(id));
-    let Some(key) = message.key() else { return Err(refused("INV_OBJREF")) };
+    let Some(key) = message.key() else { return Err(Refusal::Addressing) };
     let head = Head {
         version: message.version(),
         order: message.order(),
@@ -100,8 +105,8 @@ pub fn reply_of(message: &mut Message<'_>) -> Reply {
 
 impl From<Outcome> for Answer {
     fn from(outcome: Outcome) -> Answer {
-        let Outcome { status, order, body } = outcome;
-        let body = Body { octets: body, place: 0 };
+        let Outcome { status, order, place, body } = outcome;
+        let body = Body { octets: body, place: place.into() };
         Answer { status, order, contexts: Contexts::new(), body }
     }
 }
@@ -117,17 +122,19 @@ impl Answer {
     #[must_use]
     pub fn nothing() -> Answer {
         let status = Status::NoException.number();
-        Outcome { status, order: Order::Big, body: Vec::new() }.into()
+        Outcome { status, order: Order::Big, place: 0, body: Vec::new() }.into()
     }
 
-    /// The outcome that it is. None, where its body means something else at a place divisible by 8:
-    /// the body of a system exception has nothing that is aligned to more than 4.
+    /// The outcome that it is. A body that means the same at each multiple of 4 has the place 0, so
+    /// that it can stand in a Reply of any version: that of a system exception has nothing that is
+    /// aligned to more than 4.
     #[must_use]
-    pub fn outcome(&self) -> Option<Outcome> {
+    pub fn outcome(&self) -> Outcome {
         let Body { octets, place } = &self.body;
-        let is_moved = octets.len() <= 4 || is(self.status, Status::SystemException);
-        let is_there = octets.is_empty() || place % 8 == 0 || (place % 4 == 0 && is_moved);
-        is_there.then(|| Outcome { status: self.status, order: self.order, body: octets.clone() })
+        let is_free = octets.len() <= 4 || is(self.status, Status::SystemException);
+        let place = if is_free && place % 4 == 0 { 0 } else { place % 8 };
+        let place = u8::try_from(place).unwrap_or(0);
+        Outcome { status: self.status, order: self.order, place, body: octets.clone() }
     }
 
     /// The Reply to the request of an id. Where it would be too long, that says so.
@@ -143,48 +150,73 @@ impl Answer {
 }
 
 /// Which addresses a relay stands before, and its own.
-#[derive(Clone, Debug, Default, PartialEq, Eq)]
 pub struct Guarded {
-    pub own: (String, u16),
-    pub servers: Vec<(String, u16)>,
+    /// Where clients find it, where that is not where it listens.
+    pub published: Vec<(String, u16)>,
+    pub listens: Vec<(String, u16)>,
+    pub servers: Arc<dyn Places>,
 }
 
 impl Guarded {
-    /// What a client is told of a reply. A reference to which it is forwarded leads to the relay.
+    /// What a client is told of a reply that found this relay at an address. A reference to which it
+    /// is forwarded leads to the relay.
     ///
     /// # Errors
     ///
     /// Says why the server's reply can't be passed on: it leads elsewhere, or wants another
     /// addressing of its object. The server has not performed the request then.
-    pub fn told(&self, reply: Reply) -> Result<Answer, String> {
+    pub async fn told(&self, reply: Reply, found: SocketAddr) -> Result<Answer, String> {
         let Reply { status, order, contexts, body } = reply;
         let is_forward =
             is(status, Status::LocationForward) || is(status, Status::LocationForwardPerm);
         if is(status, Status::NeedsAddressingMode) {
             return Err("the server wants another addressing of its object".into());
         }
-        let body = if is_forward { self.led(order, &body)? } else { body };
-        Ok(Answer { status, order, contexts, body })
-    }
-
-    /// The body of a forward that leads through the relay.
-    fn led(&self, order: Order, body: &Body) -> Result<Body, String> {
-        let said = |error: Error| error.to_string();
-        let mut ior = Ior::read(&mut Reader::at(&body.octets, order, body.place)).map_err(said)?;
-        for profile in ior.profiles() {
-            let Some(address) = profile.map_err(said)?.address else { continue };
-            let host = String::from_utf8_lossy(&address.host).into_owned();
-            let at = (host, address.port);
-            if at != self.own && !self.servers.contains(&at) {
-                return Err(format!("it forwards to {}:{}, which is not guarded", at.0, at.1));
+        if !is_forward {
+            return Ok(Answer { status, order, contexts, body });
+        }
+        let (text, places) = reference_in(order, &body)?;
+        let here = (found.ip().to_string(), found.port());
+        let mut guarded =
+            [&self.published[..], &self.listens, std::slice::from_ref(&here)].concat();
+        guarded.extend(self.servers.addresses().iter().filter_map(|it| wire::parts_of(it)));
+        for place in places {
+            if !wire::is_among(&place, &guarded).await {
+                let place = wire::words_of(&wire::shown(place.0.as_bytes()), place.1);
+                return Err(format!("it forwards to {place}, which is not guarded"));
             }
         }
-        let text = reference::at(&ior.to_text().map_err(said)?, &self.own.0, self.own.1)?;
-        let mut led: Ior = text.parse().map_err(said)?;
-        let mut out = Writer::new(order);
-        led.write(&mut out).map_err(said)?;
-        Ok(Body { octets: out.into_octets(), place: 0 })
+        let (host, port) = self.published.first().unwrap_or(&here);
+        let body = led(order, &reference::at(&text, host, *port)?)?;
+        Ok(Answer { status, order, contexts, body })
     }
+}
+
+fn said(error: Error) -> String {
+    error.to_string()
+}
+
+/// The reference that the body of a forward has, as text, and where it leads.
+fn reference_in(order: Order, body: &Body) -> Result<(String, Vec<(String, u16)>), String> {
+    let mut ior = Ior::read(&mut Reader::at(&body.octets, order, body.place)).map_err(said)?;
+    let mut places = Vec::new();
+    for profile in ior.profiles() {
+        if let Some(address) = profile.map_err(said)?.address {
+            places.push((String::from_utf8_lossy(&address.host).into_owned(), address.port));
+        }
+    }
+    if places.len() > PROFILES {
+        return Err("it forwards by too many profiles".into());
+    }
+    Ok((ior.to_text().map_err(said)?, places))
+}
+
+/// The body of a forward to a reference.
+fn led(order: Order, text: &str) -> Result<Body, String> {
+    let mut led: Ior = text.parse().map_err(said)?;
+    let mut out = Writer::new(order);
+    led.write(&mut out).map_err(said)?;
+    Ok(Body { octets: out.into_octets(), place: 0 })
 }
 
 #[cfg(test)]
@@ -240,11 +272,9 @@ mod tests {
 
     #[test]
     fn what_can_not_be_performed_is_refused() {
-        let bad = Outcome::system("BAD_CONTEXT", 0, Completed::No);
-        let limit = Outcome::system("IMP_LIMIT", 0, Completed::No);
         let short = b"\0\0\0\x0d\0\0\0\x01\0\0\0\0";
-        assert_eq!(of(&octets(1, short), request_of), Err(bad));
-        assert_eq!(of(&octets(33, &SETS.repeat(33)), request_of), Err(limit));
+        assert_eq!(of(&octets(1, short), request_of), Err(Refusal::FtRequest));
+        assert_eq!(of(&octets(33, &SETS.repeat(33)), request_of), Err(Refusal::Contexts));
         assert!(of(&octets(32, &SETS.repeat(32)), request_of).is_ok());
     }
 
@@ -254,20 +284,15 @@ mod tests {
     }
 
     #[test]
-    fn an_outcome_means_the_same_at_a_multiple_of_8() {
+    fn an_outcome_has_its_place_unless_it_means_the_same_elsewhere() {
         let system = Status::SystemException.number();
-        for (status, size, place, is_one) in [
-            (0, 9, 24, true),
-            (0, 9, 28, false),
-            (0, 4, 28, true),
-            (0, 0, 25, true),
-            (0, 1, 25, false),
-            (system, 40, 28, true),
-        ] {
-            let outcome = answer(status, &vec![1; size], place).outcome();
+        for (status, size, at, place) in
+            [(0, 9, 24, 0), (0, 9, 28, 4), (0, 4, 28, 0), (0, 0, 28, 0), (system, 40, 28, 0)]
+        {
+            let outcome = answer(status, &vec![1; size], at).outcome();
             let body = vec![1; size];
-            let wanted = is_one.then_some(Outcome { status, order: Order::Little, body });
-            assert_eq!(outcome, wanted, "{status} {size} {place}");
+            assert_eq!(outcome, Outcome { status, order: Order::Little, place, body });
+            assert_eq!(Answer::from(outcome).body.place, u64::from(place));
         }
     }
 
@@ -288,25 +313,34 @@ mod tests {
         [head.as_slice(), host, b"\0\0", &port.to_be_bytes(), key].concat()
     }
 
-    #[test]
-    fn a_forward_leads_to_the_relay() {
-        let servers = vec![("back".to_owned(), 1), ("next".to_owned(), 2)];
-        let guarded = Guarded { own: ("here".to_owned(), 9), servers };
+    #[tokio::test]
+    async fn a_forward_leads_to_the_relay() {
+        let servers = Arc::new(vec!["[::b1]:1".to_owned(), "[::b2]:2".to_owned()]);
+        let (published, listens) = (Vec::new(), vec![("::".to_owned(), 9)]);
+        let mut guarded = Guarded { published, listens, servers };
+        let found: SocketAddr = "[::a1]:9".parse().unwrap();
         let forward = Status::LocationForward.number();
         let reply = |status, octets| {
             let body = Body { octets, place: 24 };
             Reply { status, order: Order::Big, contexts: Contexts::new(), body }
         };
-        for (host, port) in [(b"back", 1), (b"next", 2), (b"here", 9)] {
-            let told = guarded.told(reply(forward, reference(host, port))).unwrap();
-            assert_eq!((told.status, told.body.octets), (forward, reference(b"here", 9)));
+        // (the last is another spelling of ::b2)
+        for (host, port) in [(b"::b1", 1), (b"::b2", 2), (b"::a1", 9), (b"::B2", 2)] {
+            let told = guarded.told(reply(forward, reference(host, port)), found).await.unwrap();
+            assert_eq!((told.status, told.body.octets), (forward, reference(b"::a1", 9)));
         }
-        for (host, port) in [(b"back", 2), (b"else", 1)] {
-            assert!(guarded.told(reply(forward, reference(host, port))).is_err());
+        for (host, port) in [(b"::b1", 2), (b"::b3", 1), (b"::c1", 9)] {
+            assert!(guarded.told(reply(forward, reference(host, port)), found).await.is_err());
         }
-        assert!(guarded.told(reply(Status::NeedsAddressingMode.number(), vec![0, 0])).is_err());
-        assert!(guarded.told(reply(forward, vec![0, 0, 0])).is_err());
-        let told = guarded.told(reply(0, vec![1, 2])).unwrap();
+        let other = reply(Status::NeedsAddressingMode.number(), vec![0, 0]);
+        assert!(guarded.told(other, found).await.is_err());
+        assert!(guarded.told(reply(forward, vec![0, 0, 0]), found).await.is_err());
+        let told = guarded.told(reply(0, vec![1, 2]), found).await.unwrap();
         assert_eq!((told.body.octets, told.body.place), (vec![1, 2], 24));
+        guarded.published = vec![("::c1".to_owned(), 8)];
+        for (host, port) in [(b"::c1", 8), (b"::a1", 9)] {
+            let told = guarded.told(reply(forward, reference(host, port)), found).await.unwrap();
+            assert_eq!(told.body.octets, reference(b"::c1", 8));
+        }
     }
 }

@@ -1,25 +1,28 @@
-//! Frames of a stream that are longer than a message may be: they are passed over, and who waits for
-//! an answer is told.
+//! Messages of a stream that are longer than they may be: all but their beginnings is passed over, so
+//! that who waits for an answer can be told, and the stream goes on.
 
-use lemonrudder::Version;
+use std::collections::{HashMap, HashSet};
 
-/// How many octets a header has (CORBA 3.3 Part 2, 9.4.1).
+/// How many octets a header has (CORBA 3.3 Part 2, 9.4.1), and one with a request id behind it.
 const HEADER: usize = 12;
+const WITH_ID: usize = HEADER + 4;
 /// The types of messages that are looked at.
-const REQUEST: u8 = 0;
 const REPLY: u8 = 1;
+const FRAGMENT: u8 = 7;
 /// What is said of a message of 1.1 and 1.2 that more fragments follow.
 const MORE: u8 = 2;
+/// How many octets stay at most of a frame that is too long.
+const KEPT: usize = 1 << 16;
+/// Of how many messages fragments are passed over.
+const CUT: usize = 1024;
 
 /// What was taken of a stream.
 #[derive(Debug, PartialEq, Eq)]
 pub enum Taken<'a> {
     /// Octets of messages.
     Octets(&'a [u8]),
-    /// The same, of which some came before.
+    /// The same, of which some came before, or were changed.
     Held(Vec<u8>),
-    /// A Request or a Reply that is too long, by its id; `is_wished` where it may wish a reply.
-    Long { version: Version, id: u32, is_wished: bool },
     /// What means nothing yet, or any more.
     Nothing,
 }
@@ -28,78 +31,176 @@ pub enum Taken<'a> {
 #[derive(Debug)]
 pub struct Frames {
     longest: usize,
-    /// What has come of a frame, until it is known whether it is too long.
+    /// What has come of a frame, until it is known what becomes of it.
     held: Vec<u8>,
-    /// How many octets of a frame come, and whether they are passed over.
+    /// How many octets of a frame come, and behind those, how many that are passed over.
     left: usize,
-    is_passed_over: bool,
+    over: usize,
+    /// How long the messages are whose fragments come, by their ids.
+    partial: HashMap<u32, usize>,
+    /// Those whose further fragments are passed over.
+    cut: HashSet<u32>,
+    /// Whether the message that ends in this frame was cut there.
+    is_cut: bool,
     /// Whether what came is no frame: all that comes is for who judges that.
     is_lost: bool,
 }
 
+/// What is looked at of the header of a frame.
+struct Head {
+    size: usize,
+    version: u8,
+    has_more: bool,
+    kind: u8,
+    /// The id of a fragment, or of a message that fragments follow.
+    id: u32,
+}
+
 impl Frames {
-    /// Frames of at most so many octets.
+    /// Frames of messages of at most so many octets.
     #[must_use]
     pub fn new(longest: usize) -> Frames {
-        let (held, left) = (Vec::new(), 0);
-        Frames { longest, held, left, is_passed_over: false, is_lost: false }
+        Frames {
+            longest,
+            held: Vec::new(),
+            left: 0,
+            over: 0,
+            partial: HashMap::new(),
+            cut: HashSet::new(),
+            is_cut: false,
+            is_lost: false,
+        }
+    }
+
+    /// Whether the message that what was taken completes is the beginning of one that is too long.
+    #[must_use]
+    pub fn is_cut(&self) -> bool {
+        self.is_cut
     }
 
     /// Takes what comes next of a stream.
     pub fn take<'a>(&mut self, octets: &mut &'a [u8]) -> Taken<'a> {
-        if self.left == 0 && !self.is_lost && !self.begins(octets) {
+        if self.is_lost {
+            return Taken::Octets(std::mem::take(octets));
+        }
+        if self.left == 0 && self.over > 0 {
+            let size = self.over.min(octets.len());
+            *octets = &octets[size..];
+            self.over -= size;
+            return Taken::Nothing;
+        }
+        if self.left == 0 && !self.begins(octets) {
             return self.hold(octets);
         }
-        let size = if self.is_lost { octets.len() } else { self.left.min(octets.len()) };
-        let (taken, rest) = octets.split_at(size);
+        let (taken, rest) = octets.split_at(self.left.min(octets.len()));
         *octets = rest;
-        self.left = self.left.saturating_sub(size);
-        if self.is_passed_over && !self.is_lost {
-            Taken::Nothing
-        } else {
-            Taken::Octets(taken)
-        }
+        self.left -= taken.len();
+        Taken::Octets(taken)
     }
 
-    /// Begins with a frame whose header has come in one piece, unless it is too long.
+    /// Begins with a frame whose header has come in one piece, where nothing is to be changed of it.
     fn begins(&mut self, octets: &[u8]) -> bool {
         let Some(size) = octets.get(..HEADER).filter(|_| self.held.is_empty()).map(size_of) else {
             return false;
         };
-        self.is_lost = size.is_none();
-        self.left = size.unwrap_or(0);
-        self.is_passed_over = false;
-        if self.left > self.longest {
-            self.left = 0;
+        let is_part = octets[6] & MORE != 0 || octets[7] == FRAGMENT;
+        if is_part || size.is_none_or(|size| size > self.longest) {
             return false;
         }
+        self.is_cut = false;
+        self.left = size.unwrap_or(0);
         true
     }
 
-    /// Holds octets of a frame until it is known whether it is too long.
+    /// Holds octets of a frame until it is known what becomes of it.
     fn hold<'a>(&mut self, octets: &mut &'a [u8]) -> Taken<'a> {
-        let more = (self.wanted() - self.held.len()).min(octets.len());
+        let more = (wanted(&self.held) - self.held.len()).min(octets.len());
         let (taken, rest) = octets.split_at(more);
         *octets = rest;
         self.held.extend(taken);
-        if self.held.len() < self.wanted() {
+        if self.held.len() < wanted(&self.held) {
             return Taken::Nothing;
         }
-        let held = std::mem::take(&mut self.held);
-        let size = size_of(&held);
-        self.is_lost = size.is_none();
-        self.left = size.unwrap_or(0).saturating_sub(held.len());
-        let long = size.filter(|size| *size > self.longest).and_then(|_| long_of(&held));
-        self.is_passed_over = long.is_some();
-        long.unwrap_or(Taken::Held(held))
+        let mut held = std::mem::take(&mut self.held);
+        self.is_cut = false;
+        let Some(head) = head_of(&held) else {
+            self.is_lost = true;
+            return Taken::Held(held);
+        };
+        self.left = head.size - held.len();
+        match self.length(&head) {
+            None => {
+                (self.left, self.over) = (0, self.left);
+                Taken::Nothing
+            }
+            Some(length) => {
+                if length < head.size || self.is_cut {
+                    self.left = length - held.len();
+                    self.over = head.size - length;
+                    set_length(&mut held, length);
+                }
+                Taken::Held(held)
+            }
+        }
     }
 
-    /// How many octets say what is to be known of the frame of which some are held.
-    fn wanted(&self) -> usize {
-        match size_of(&self.held) {
-            Some(size) if size > self.longest => HEADER + if self.held[5] == 2 { 5 } else { 9 },
-            _ => HEADER,
+    /// How many octets of a frame go on; none where it belongs to a message that was cut.
+    fn length(&mut self, head: &Head) -> Option<usize> {
+        let Head { size, id, .. } = *head;
+        let is_long = size > self.longest;
+        match head.kind {
+            ..=REPLY if is_long && self.cut.len() < CUT => {
+                self.is_cut = true;
+                if head.has_more {
+                    self.cut.insert(id);
+                }
+                Some(KEPT.min(self.longest))
+            }
+            ..=REPLY if head.has_more => {
+                self.partial.insert(id, size);
+                Some(size)
+            }
+            FRAGMENT if self.cut.contains(&id) => {
+                if !head.has_more {
+                    self.cut.remove(&id);
+                }
+                None
+            }
+            FRAGMENT => Some(self.length_of_fragment(head)),
+            _ => Some(size),
         }
+    }
+
+    /// The same of a fragment. The one by which its message is too long becomes an empty one, the last.
+    fn length_of_fragment(&mut self, head: &Head) -> usize {
+        let least = if head.version == 2 { WITH_ID } else { HEADER };
+        let Some(whole) = self.partial.get_mut(&head.id) else { return head.size };
+        *whole += head.size - least;
+        self.is_cut = *whole > self.longest && self.cut.len() < CUT;
+        if self.is_cut && head.has_more {
+            self.cut.insert(head.id);
+        }
+        if self.is_cut || !head.has_more {
+            self.partial.remove(&head.id);
+        }
+        if self.is_cut {
+            least
+        } else {
+            head.size
+        }
+    }
+}
+
+/// Whether octets are the beginning of a frame that has an id which is looked at.
+fn has_id(octets: &[u8]) -> bool {
+    octets[5] == 2 && (octets[7] == FRAGMENT || octets[6] & MORE != 0 && octets[7] <= REPLY)
+}
+
+/// How many octets say what is to be known of the frame of which some are held.
+fn wanted(held: &[u8]) -> usize {
+    match size_of(held) {
+        Some(size) if has_id(held) && size >= WITH_ID => WITH_ID,
+        _ => HEADER,
     }
 }
 
@@ -107,6 +208,15 @@ impl Frames {
 fn size_of(octets: &[u8]) -> Option<usize> {
     let header = octets.get(..HEADER).filter(|it| it.starts_with(b"GIOP\x01"))?;
     usize::try_from(number_of(header, 8)).ok()?.checked_add(HEADER)
+}
+
+/// What the octets say that stand before all others of a frame.
+fn head_of(octets: &[u8]) -> Option<Head> {
+    let (size, version) = (size_of(octets)?, octets[5]);
+    // (in 1.1 fragments follow one another, and there is no id)
+    let id = if octets.len() < WITH_ID { 0 } else { number_of(octets, HEADER) };
+    let has_more = version > 0 && octets[6] & MORE != 0;
+    Some(Head { size, version, has_more, kind: octets[7], id })
 }
 
 /// The number at a place of a message.
@@ -119,18 +229,12 @@ fn number_of(octets: &[u8], at: usize) -> u32 {
     }
 }
 
-/// What is said of a Request or a Reply that is too long: nothing, where it is neither, in fragments,
-/// or has service contexts before its id.
-fn long_of<'a>(held: &[u8]) -> Option<Taken<'a>> {
-    let version = [Version::V10, Version::V11, Version::V12].into_iter().nth(held[5].into())?;
-    let (is_cut, kind) = (version != Version::V10 && held[6] & MORE != 0, held[7]);
-    let is_after_contexts = version != Version::V12;
-    if is_cut || kind > REPLY || (is_after_contexts && number_of(held, HEADER) != 0) {
-        return None;
-    }
-    let at = HEADER + if is_after_contexts { 4 } else { 0 };
-    let is_wished = kind == REQUEST && held[at + 4] & 3 != 0;
-    Some(Taken::Long { version, id: number_of(held, at), is_wished })
+/// Makes a frame one of so many octets, that nothing follows.
+fn set_length(octets: &mut [u8], length: usize) {
+    let size = u32::try_from(length - HEADER).unwrap_or(u32::MAX);
+    let size = if octets[6] & 1 == 0 { size.to_be_bytes() } else { size.to_le_bytes() };
+    octets[8..HEADER].copy_from_slice(&size);
+    octets[6] &= !MORE;
 }
 
 impl Taken<'_> {
@@ -140,7 +244,7 @@ impl Taken<'_> {
         match self {
             Taken::Octets(octets) => octets,
             Taken::Held(octets) => octets,
-            Taken::Long { .. } | Taken::Nothing => &[],
+            Taken::Nothing => &[],
         }
     }
 }
@@ -149,19 +253,25 @@ impl Taken<'_> {
 mod tests {
     use super::*;
 
-    /// What a stream gives, in pieces of a size: the octets of all, and what is too long.
-    fn taken(stream: &[u8], size: usize) -> (Vec<u8>, Vec<(Version, u32, bool)>) {
-        let (mut frames, mut all, mut long) = (Frames::new(40), Vec::new(), Vec::new());
+    const LONGEST: usize = 40;
+
+    /// What a stream gives, in pieces of a size: the octets of all, and behind how many of those a
+    /// message was cut.
+    fn taken(stream: &[u8], size: usize) -> (Vec<u8>, Vec<usize>) {
+        let (mut frames, mut all, mut cuts) = (Frames::new(LONGEST), Vec::new(), Vec::new());
         for mut piece in stream.chunks(size) {
             while !piece.is_empty() {
-                let taken = frames.take(&mut piece);
-                all.extend(taken.octets());
-                if let Taken::Long { version, id, is_wished } = taken {
-                    long.push((version, id, is_wished));
+                let is_new = {
+                    let taken = frames.take(&mut piece);
+                    all.extend(taken.octets());
+                    !taken.octets().is_empty()
+                };
+                if is_new && frames.is_cut() && frames.left == 0 {
+                    cuts.push(all.len());
                 }
             }
         }
-        (all, long)
+        (all, cuts)
     }
 
     /// A message: its minor version, its flags, its type, and what stands behind the header.
@@ -172,32 +282,74 @@ mod tests {
     }
 
     const SHORT: [u8; 28] = [7; 28];
-    const LONG: [u8; 29] = [0; 29];
+    const LONG: [u8; 29] = [9; 29];
 
     #[test]
     fn what_is_short_passes() {
-        let stream =
-            [message(2, 0, 0, &SHORT), message(0, 1, 1, b""), message(2, 0, 5, b"")].concat();
+        let fragments = [message(2, 2, 0, b"\0\0\0\x05abcd"), message(2, 0, 7, b"\0\0\0\x05efgh")];
+        let stream = [
+            message(2, 0, 0, &SHORT),
+            message(0, 1, 1, b""),
+            message(2, 0, 5, b""),
+            fragments.concat(),
+            message(1, 2, 1, b"abcd"),
+            message(1, 0, 7, b"efgh"),
+            fragments.concat(),
+        ]
+        .concat();
         for size in 1..stream.len() {
-            assert_eq!(taken(&stream, size), (stream.clone(), vec![]));
+            assert_eq!(taken(&stream, size), (stream.clone(), vec![]), "{size}");
         }
     }
 
     #[test]
-    fn what_is_long_is_passed_over() {
-        let begun = |begin: &[u8]| [begin, &LONG].concat();
-        for (long, said) in [
-            (message(2, 0, 0, &begun(b"\0\0\x01\x02\x03")), (Version::V12, 0x102, true)),
-            (message(2, 0, 0, &begun(b"\0\0\x01\x02\0")), (Version::V12, 0x102, false)),
-            (message(2, 1, 1, &begun(b"\x09\0\0\0\0")), (Version::V12, 9, false)),
-            (message(0, 0, 0, &begun(b"\0\0\0\0\0\0\0\x08\x01")), (Version::V10, 8, true)),
-            (message(1, 1, 1, &begun(b"\0\0\0\0\x07\0\0\0")), (Version::V11, 7, false)),
-        ] {
-            let other = message(2, 0, 1, &SHORT);
+    fn of_what_is_long_the_beginning_stays() {
+        let other = message(2, 0, 1, &SHORT);
+        for (minor, flags, kind) in [(2, 0, 0), (2, 1, 1), (1, 0, 0), (0, 1, 0)] {
+            let (long, cut) =
+                (message(minor, flags, kind, &LONG), message(minor, flags, kind, &LONG[1..]));
             let stream = [&other[..], &long, &other, &long].concat();
+            let wanted = [&other[..], &cut, &other, &cut].concat();
             for size in 1..stream.len() {
-                assert_eq!(taken(&stream, size), (other.repeat(2), vec![said; 2]), "{size}");
+                assert_eq!(taken(&stream, size), (wanted.clone(), vec![80, 160]), "{size}");
             }
+        }
+    }
+
+    #[test]
+    fn fragments_behind_those_that_fit_are_passed_over() {
+        let other = message(2, 0, 1, &SHORT);
+        for (minor, id, id_of_next) in [(2, &b"\0\0\0\x05"[..], &b"\0\0\0\x06"[..]), (1, b"", b"")]
+        {
+            let part = |flags, kind, id: &[u8], size| {
+                message(minor, flags, kind, &[id, &[3; 20][..size]].concat())
+            };
+            let (first, fits) = (part(2, 0, id, 8), part(2, 7, id, 8));
+            let (long, last) = (part(2, 7, id, 20), part(0, 7, id, 4));
+            let next = [part(2, 0, id_of_next, 8), part(0, 7, id_of_next, 8)].concat();
+            let stream = [&first[..], &fits, &long, &long, &last, &next, &other].concat();
+            let empty = part(0, 7, id, 0);
+            let wanted = [&first[..], &fits, &empty, &next, &other].concat();
+            let cut = first.len() + fits.len() + empty.len();
+            for size in 1..stream.len() {
+                assert_eq!(taken(&stream, size), (wanted.clone(), vec![cut]), "{minor} {size}");
+            }
+        }
+    }
+
+    #[test]
+    fn a_first_frame_that_is_too_long_has_no_fragments() {
+        let content = [b"\0\0\0\x05".as_slice(), &[3; 40]].concat();
+        let stream = [
+            message(2, 2, 0, &content),
+            message(2, 2, 7, &content[..9]),
+            message(2, 0, 7, &content[..5]),
+            message(2, 0, 5, b""),
+        ]
+        .concat();
+        let wanted = [message(2, 0, 0, &content[..28]), message(2, 0, 5, b"")].concat();
+        for size in 1..stream.len() {
+            assert_eq!(taken(&stream, size), (wanted.clone(), vec![40]), "{size}");
         }
     }
 
@@ -205,10 +357,9 @@ mod tests {
     fn what_can_not_be_told_is_judged_by_others() {
         for stream in [
             b"GET / HTTP/1.1\r\n\r\nand so on".to_vec(),
-            message(2, 2, 0, &LONG),
-            message(0, 0, 0, &[1; 40]),
-            message(3, 0, 0, &LONG),
             message(2, 0, 3, &LONG),
+            message(2, 0, 7, b"\0\0\0\x05abcd"),
+            message(2, 0, 7, b"ab"),
         ] {
             for size in 1..stream.len() {
                 assert_eq!(taken(&stream, size), (stream.clone(), vec![]), "{size}");

@@ -2,33 +2,38 @@
 
 use crate::compose;
 use crate::forward::{self, Answer, Request, CODE_SETS};
-use crate::frames::{Frames, Taken};
+use crate::frames::Frames;
 use crate::metrics::metrics;
 use crate::points::point;
+use crate::reasons::{self, Refusal};
 use crate::settings;
+use crate::store::Key;
 use crate::tls::Acceptor;
-use crate::wire::{self, locked, Stream};
+use crate::wire::{self, locked, shown, Reading, Writing};
 use lemonrudder::{
-    write, Assembler, Completed, Limits, LocateStatus, Message, MessageType, Version, Wish,
+    write, Assembler, Fault, Limits, LocateStatus, Message, MessageType, Version, Wish,
 };
-use std::collections::HashMap;
+use std::collections::{BTreeMap, HashMap};
 use std::future::Future;
 use std::net::{IpAddr, SocketAddr};
 use std::pin::Pin;
 use std::sync::{Arc, Mutex};
 use std::time::Duration;
-use tokio::io::{copy, sink, AsyncReadExt, AsyncWriteExt, ReadHalf, WriteHalf};
+use tokio::io::{copy, sink, AsyncReadExt, AsyncWriteExt};
 use tokio::net::{TcpListener, TcpStream};
 use tokio::select;
 use tokio::sync::{mpsc, oneshot, watch, OwnedSemaphorePermit, Semaphore};
 use tokio::task::{JoinHandle, JoinSet};
-use tokio::time::{sleep, timeout};
+use tokio::time::{sleep, timeout, timeout_at, Instant};
 use tracing::{info, warn};
 
 /// What is read and written at once: at first, and where there is so much.
 const SIZES: (usize, usize) = (1 << 12, 1 << 16);
 /// What a peer has to close at the end of its stream; and a pause where nobody can be accepted.
 const LINGER: Duration = Duration::from_secs(2);
+/// What arrived before the end is heard, until nothing comes for so long: nobody is told that a one
+/// way call was not.
+const ARRIVED: Duration = Duration::from_millis(20);
 /// How many replies are due to a peer from which on it is not heard.
 const DUE: usize = 64;
 /// How many requests of a connection are under way at most.
@@ -39,8 +44,29 @@ const REQUESTS: u16 = 256;
 pub struct Peer {
     pub number: u64,
     pub address: SocketAddr,
+    /// The address at which it found this relay.
+    pub found: SocketAddr,
     /// The names in the certificate that it showed.
     pub names: Vec<String>,
+    /// Why requests of it were refused.
+    refused: Mutex<Vec<Refusal>>,
+}
+
+impl Peer {
+    /// Refuses a request of it, of this key where it has one: it is counted, and the first for each
+    /// reason is said in the log.
+    pub fn refuses(&self, refusal: Refusal, key: Option<&Key>) -> Answer {
+        let why = refusal.reason();
+        metrics().refused.with_label_values(&[why]).inc();
+        let mut refused = locked(&self.refused);
+        if !refusal.is_said_once() && !refused.contains(&refusal) {
+            refused.push(refusal);
+            let Peer { number, address, names, .. } = self;
+            let client = key.map(|key| tracing::field::display(shown(&key.client)));
+            warn!(number, peer = %address, ?names, client, why, "a request is refused");
+        }
+        refusal.answer()
+    }
 }
 
 /// A request of a peer.
@@ -72,7 +98,7 @@ pub struct Bounds {
 }
 
 /// The requests of a connection that may be cancelled, by their ids.
-type Cancels = Arc<Mutex<HashMap<u32, oneshot::Sender<()>>>>;
+type Cancels = Arc<Mutex<BTreeMap<u32, oneshot::Sender<()>>>>;
 
 /// What all connections share.
 struct Front<R> {
@@ -127,6 +153,12 @@ pub async fn listen(addresses: &[String]) -> Result<Vec<TcpListener>, String> {
     Ok(listeners)
 }
 
+/// Where some listeners listen.
+#[must_use]
+pub fn places_of(listeners: &[TcpListener]) -> Vec<SocketAddr> {
+    listeners.iter().filter_map(|listener| listener.local_addr().ok()).collect()
+}
+
 /// Serves who connects to the listeners, until a future ends. Then no connection is accepted any
 /// more, what is under way is answered, and CloseConnection is said on each connection.
 pub async fn serve<R: Role>(
@@ -167,9 +199,8 @@ pub async fn serve<R: Role>(
 async fn accepts<R: Role>(front: Arc<Front<R>>, listener: TcpListener, peers: Arc<Semaphore>) {
     static NUMBER: std::sync::atomic::AtomicU64 = std::sync::atomic::AtomicU64::new(1);
     loop {
-        let Ok(place) = peers.clone().acquire_owned().await else { return };
         let (socket, address) = match listener.accept().await {
-            Ok(accepted) => accepted,
+            Ok((socket, address)) => (socket, wire::plain(address)),
             Err(error) => {
                 warn!(%error, "nobody can be accepted");
                 sleep(LINGER).await;
@@ -177,16 +208,39 @@ async fn accepts<R: Role>(front: Arc<Front<R>>, listener: TcpListener, peers: Ar
             }
         };
         let number = NUMBER.fetch_add(1, std::sync::atomic::Ordering::Relaxed);
+        let Ok(place) = peers.clone().try_acquire_owned() else {
+            ended(number, address, &"there are too many".into());
+            continue;
+        };
+        let Some(of_address) = Place::of(&front, address.ip()) else {
+            ended(number, address, &"its address has too many".into());
+            continue;
+        };
         let front = front.clone();
         tokio::spawn(async move {
             metrics().connections.inc();
-            let why = attends(&front, number, socket, address).await;
+            let end = attends(&front, number, socket, address).await;
             metrics().connections.dec();
-            metrics().ended.with_label_values(&[why]).inc();
-            info!(number, peer = %address, why, "connection ended");
-            drop(place);
+            ended(number, address, &end);
+            drop((place, of_address));
         });
     }
+}
+
+/// Why a connection ended, and more of that where more is known.
+struct End(&'static str, Option<String>);
+
+impl From<&'static str> for End {
+    fn from(why: &'static str) -> End {
+        End(why, None)
+    }
+}
+
+/// Counts and says that a connection ended.
+fn ended(number: u64, address: SocketAddr, End(why, detail): &End) {
+    metrics().ended.with_label_values(&[why]).inc();
+    let detail = detail.as_ref().map(tracing::field::display);
+    info!(number, peer = %address, why, detail, "connection ended");
 }
 
 /// Attends to a connection, and answers why it ended.
@@ -195,36 +249,31 @@ async fn attends<R: Role>(
     number: u64,
     socket: TcpStream,
     address: SocketAddr,
-) -> &'static str {
+) -> End {
     let limits = &front.bounds.limits;
-    let Some(_place) = Place::of(front, address.ip()) else { return "its address has too many" };
-    let accepted = wire::accept(socket, front.tls.as_ref(), limits.handshake).await;
-    let Ok((stream, names)) = accepted else { return "no handshake" };
-    let peer = Arc::new(Peer { number, address, names });
-    let (mut reading, writing) = tokio::io::split(stream);
+    let Ok(found) = socket.local_addr().map(wire::plain) else {
+        return Why::Failed.text().into();
+    };
+    let accepted = wire::accept(socket, front.tls.as_ref(), limits).await;
+    let (stream, names) = match accepted {
+        Ok(accepted) => accepted,
+        Err(error) => return End("no handshake", Some(error.to_string())),
+    };
+    let peer = Arc::new(Peer { number, address, found, names, refused: Mutex::default() });
+    let (mut reading, writing) = stream.halves();
     let (due, dues) = mpsc::channel(DUE);
     let mut writer = tokio::spawn(writes(writing, dues, limits.stalled));
-    let Ok(assembler) = Assembler::open(limits_of(limits)) else { return "memory is short" };
-    let mut talk = Talk {
-        front: front.clone(),
-        peer,
-        frames: Frames::new(limits.message.min(compose::LONGEST)),
-        assembler,
-        sets: None,
-        cancels: Cancels::default(),
-        under_way: Arc::new(Semaphore::new(REQUESTS.into())),
-        due,
-    };
+    let Some(mut talk) = Talk::of(front, peer, due) else { return Why::Memory.text().into() };
     let why = talk.listens(&mut reading, &mut writer).await;
     if why.is_lost() {
         writer.abort();
-        return why.text();
+        return why.text().into();
     }
     talk.parts(why).await;
     _ = writer.await;
     // what still comes means nothing; it is taken, so that what was sent last arrives
     _ = timeout(LINGER, copy(&mut reading, &mut sink())).await;
-    why.text()
+    why.text().into()
 }
 
 /// The limits of a stream.
@@ -236,11 +285,7 @@ fn limits_of(limits: &settings::Limits) -> Limits {
 }
 
 /// Writes what is due to a peer, until nothing can be any more.
-async fn writes(
-    mut half: WriteHalf<Stream>,
-    mut dues: mpsc::Receiver<Vec<u8>>,
-    patience: Duration,
-) {
+async fn writes(mut half: Writing, mut dues: mpsc::Receiver<Vec<u8>>, patience: Duration) {
     while let Some(mut octets) = dues.recv().await {
         while octets.len() < SIZES.1 {
             let Ok(more) = dues.try_recv() else { break };
@@ -267,7 +312,7 @@ enum Why {
     Idle,
     Goodbye,
     Error,
-    Fault,
+    Fault(Option<Fault>),
     Direction,
     Memory,
     Stop,
@@ -282,7 +327,7 @@ impl Why {
             Why::Idle => "it was idle",
             Why::Goodbye => "the peer said CloseConnection",
             Why::Error => "the peer said MessageError",
-            Why::Fault => "what came is no GIOP, or too long",
+            Why::Fault(fault) => reasons::of_fault(fault),
             Why::Direction => "the peer sent what only a server sends",
             Why::Memory => "memory is short",
             Why::Stop => "the relay ends",
@@ -306,29 +351,54 @@ struct Talk<R> {
     cancels: Cancels,
     under_way: Arc<Semaphore>,
     due: mpsc::Sender<Vec<u8>>,
+    /// When the last message was whole.
+    heard: Instant,
 }
 
 /// What a message wants.
 enum Heard {
     Performed(Box<Request>, u32),
+    Refused(Refusal, Version, u32, bool),
     Answered(Vec<u8>),
     Nothing,
 }
 
 impl<R: Role> Talk<R> {
+    /// One that begins, unless memory is short.
+    fn of(front: &Arc<Front<R>>, peer: Arc<Peer>, due: mpsc::Sender<Vec<u8>>) -> Option<Talk<R>> {
+        let limits = &front.bounds.limits;
+        Some(Talk {
+            front: front.clone(),
+            peer,
+            frames: Frames::new(limits.message.min(compose::LONGEST)),
+            assembler: Assembler::open(limits_of(limits)).ok()?,
+            sets: None,
+            cancels: Cancels::default(),
+            under_way: Arc::new(Semaphore::new(REQUESTS.into())),
+            due,
+            heard: Instant::now(),
+        })
+    }
+
     /// Hears a peer until the connection ends.
-    async fn listens(&mut self, half: &mut ReadHalf<Stream>, writer: &mut JoinHandle<()>) -> Why {
+    async fn listens(&mut self, half: &mut Reading, writer: &mut JoinHandle<()>) -> Why {
         let mut stop = self.front.stop.clone();
         let mut room = vec![0; SIZES.0];
         loop {
             let read = select! {
-                _ = stop.wait_for_true() => return Why::Stop,
+                _ = stop.wait_for_true() => match timeout(ARRIVED, half.read(&mut room)).await {
+                    Err(_) => return Why::Stop,
+                    read => read,
+                },
                 _ = &mut *writer => return Why::Unwritten,
-                read = timeout(self.front.bounds.limits.idle, half.read(&mut room)) => read,
+                read = timeout_at(self.heard + self.front.bounds.limits.idle, half.read(&mut room)) => read,
             };
             let size = match read {
                 Err(_) if self.is_quiet() => return Why::Idle,
-                Err(_) => continue,
+                Err(_) => {
+                    self.heard = Instant::now();
+                    continue;
+                }
                 Ok(Ok(0)) => return Why::Closed,
                 Ok(Ok(size)) => size,
                 Ok(Err(_)) => return Why::Failed,
@@ -353,10 +423,6 @@ impl<R: Role> Talk<R> {
     async fn takes(&mut self, mut octets: &[u8]) -> Result<(), Why> {
         while !octets.is_empty() {
             let taken = self.frames.take(&mut octets);
-            if let Taken::Long { version, id, is_wished: true } = taken {
-                let long = Answer::system("IMP_LIMIT", 0, Completed::No);
-                _ = self.due.send(long.reply(version, id)).await;
-            }
             self.hears(taken.octets()).await?;
         }
         Ok(())
@@ -365,20 +431,36 @@ impl<R: Role> Talk<R> {
     /// Hears the messages that octets complete.
     async fn hears(&mut self, mut octets: &[u8]) -> Result<(), Why> {
         while !octets.is_empty() {
-            let fed = self.assembler.feed(octets).map_err(|_| Why::Fault)?;
+            let fed = self.assembler.feed(octets);
+            let fed = fed.map_err(|_| Why::Fault(self.assembler.fault()))?;
             octets = &octets[fed..];
             let heard = match self.assembler.message() {
-                Ok(Some(mut message)) => heard(&mut message, &mut self.sets, &self.cancels)?,
+                Ok(Some(mut message)) => {
+                    self.heard = Instant::now();
+                    let is_long = self.frames.is_cut();
+                    heard(&mut message, is_long, &mut self.sets, &self.cancels)?
+                }
                 Ok(None) => Heard::Nothing,
                 Err(_) => return Err(Why::Memory),
             };
             match heard {
                 Heard::Performed(request, id) => self.performs(*request, id).await,
+                Heard::Refused(refusal, version, id, is_wished) => {
+                    self.refuses(refusal, version, id, is_wished).await;
+                }
                 Heard::Answered(octets) => _ = self.due.send(octets).await,
                 Heard::Nothing => {}
             }
         }
         Ok(())
+    }
+
+    /// Refuses a request that can't be performed.
+    async fn refuses(&mut self, refusal: Refusal, version: Version, id: u32, is_wished: bool) {
+        let answer = self.peer.refuses(refusal, None);
+        if is_wished {
+            _ = self.due.send(answer.reply(version, id)).await;
+        }
     }
 
     /// Has a request performed, once there is room for one more.
@@ -407,7 +489,7 @@ impl<R: Role> Talk<R> {
     /// Ends a connection: what is under way is answered first, where the peer can hear that.
     async fn parts(self, why: Why) {
         let last = match why {
-            Why::Fault | Why::Direction => write::message_error(),
+            Why::Fault(_) | Why::Direction => write::message_error(),
             Why::Idle | Why::Stop => {
                 _ = self.under_way.acquire_many(REQUESTS.into()).await;
                 write::close_connection()
@@ -423,12 +505,13 @@ impl<R: Role> Talk<R> {
 /// What a message means that came on a connection.
 fn heard(
     message: &mut Message<'_>,
+    is_long: bool,
     sets: &mut Option<Vec<u8>>,
     cancels: &Cancels,
 ) -> Result<Heard, Why> {
     let id = message.request_id();
     Ok(match message.message_type() {
-        MessageType::Request => asked(message, sets)?,
+        MessageType::Request => asked(message, is_long, sets),
         MessageType::LocateRequest => {
             let (version, order) = (message.version(), message.order());
             let here = write::locate_reply(version, order, id, LocateStatus::ObjectHere);
@@ -448,12 +531,15 @@ fn heard(
 }
 
 /// What a Request means.
-fn asked(message: &mut Message<'_>, sets: &mut Option<Vec<u8>>) -> Result<Heard, Why> {
+fn asked(message: &mut Message<'_>, is_long: bool, sets: &mut Option<Vec<u8>>) -> Heard {
     let (id, version) = (message.request_id(), message.version());
-    let mut request = match forward::request_of(message) {
+    let request = if is_long { Err(Refusal::Long) } else { forward::request_of(message) };
+    let mut request = match request {
         Ok(request) => request,
-        Err(_) if message.wish() == Some(Wish::None) => return Ok(Heard::Nothing),
-        Err(outcome) => return Ok(Heard::Answered(Answer::from(outcome).reply(version, id))),
+        Err(refusal) => {
+            let is_wished = message.wish() != Some(Wish::None);
+            return Heard::Refused(refusal, version, id, is_wished);
+        }
     };
     let contexts = &mut request.head.contexts;
     match contexts.iter().find(|(id, _)| *id == CODE_SETS) {
@@ -464,7 +550,7 @@ fn asked(message: &mut Message<'_>, sets: &mut Option<Vec<u8>>) -> Result<Heard,
         }
         None => {}
     }
-    Ok(Heard::Performed(Box::new(request), id))
+    Heard::Performed(Box::new(request), id)
 }
 
 /// Waits until something is to stop.

@@ -3,18 +3,19 @@
 
 use crate::access::Clients;
 use crate::forward::{Answer, Ft, Guarded};
-use crate::front::{self, Answering, Asked, Bounds, Peer, Role};
+use crate::front::{self, Answering, Asked, Bounds, Role};
 use crate::metrics::{self, metrics, Trouble};
 use crate::points::point;
-use crate::pool::{Loss, Places, Pool, Reply};
-use crate::settings;
-use crate::store::{Begun, Outcome, Store};
+use crate::pool::{Loss, Places, Pool, Reply, UNWRITTEN};
+use crate::reasons::Refusal;
+use crate::store::{Begun, Key, Outcome, Store};
 use crate::tls::Acceptor;
-use crate::wire::{self, locked};
-use lemonrudder::{Completed, Ior, Moment};
+use crate::wire::{self, locked, shown};
+use crate::{reference, settings};
+use lemonrudder::{Completed, Moment, Status};
 use std::collections::HashMap;
-use std::fs;
-use std::path::{Path, PathBuf};
+use std::net::SocketAddr;
+use std::path::PathBuf;
 use std::sync::{Arc, Mutex};
 use std::time::Duration;
 use tokio::select;
@@ -30,31 +31,18 @@ pub const DECLINED: u32 = 0xffff_f001;
 const PURGE: Duration = Duration::from_secs(10);
 
 /// Where the servers are: at addresses, or where references say that are in files.
+#[derive(Clone)]
 struct Servers {
     addresses: Vec<String>,
     references: Vec<PathBuf>,
-}
-
-impl Servers {
-    /// The host and the port that the reference in a file says.
-    fn read(file: &Path) -> Result<(String, u16), String> {
-        let text = fs::read_to_string(file).map_err(|error| error.to_string())?;
-        let mut ior: Ior = text.trim().parse().map_err(|_| "it has no reference")?;
-        let address = ior.address().map_err(|error| error.to_string())?;
-        let address = address.ok_or("its reference has no profile of IIOP")?;
-        Ok((String::from_utf8_lossy(&address.host).into_owned(), address.port))
-    }
 }
 
 impl Places for Servers {
     fn addresses(&self) -> Vec<String> {
         let mut addresses = self.addresses.clone();
         for file in &self.references {
-            match Servers::read(file) {
-                Ok((host, port)) if host.contains(':') => {
-                    addresses.push(format!("[{host}]:{port}"))
-                }
-                Ok((host, port)) => addresses.push(format!("{host}:{port}")),
+            match reference::place_in(file) {
+                Ok((host, port)) => addresses.push(wire::words_of(&host, port)),
                 Err(why) => warn!(file = %file.display(), why, "no server"),
             }
         }
@@ -72,6 +60,8 @@ pub struct Guard {
     /// How many requests are under way of each client id, and how many may be.
     clients: Mutex<HashMap<Vec<u8>, usize>>,
     share: usize,
+    /// How long an outcome is kept at most.
+    keep: Option<Duration>,
     /// Which client ids peers may use.
     access: Option<Clients>,
 }
@@ -89,17 +79,20 @@ pub async fn run(settings: settings::Guard) -> Result<(), String> {
     let store =
         Store::open(&settings.store, settings.lease).await.map_err(|error| error.to_string())?;
     let listeners = front::listen(&common.listen).await?;
-    let own = common.listen.first().and_then(|at| wire::parts_of(at)).unwrap_or_default();
-    let servers = server.iter().filter_map(|at| wire::parts_of(at)).collect();
-    let places = Box::new(Servers { addresses: server, references: reference });
-    let pool = Pool::new(places, None, common.connections, common.limits.idle);
+    let servers = Servers { addresses: server, references: reference };
+    let pool = Pool::new(Box::new(servers.clone()), common.terms(UNWRITTEN, &listeners));
     let guard = Arc::new(Guard {
         store,
         pool,
-        guarded: Guarded { own, servers },
+        guarded: Guarded {
+            published: wire::all_parts(&common.published),
+            listens: wire::all_parts(&common.listen),
+            servers: Arc::new(servers),
+        },
         timeout: common.timeout,
         clients: Mutex::default(),
         share,
+        keep: settings.keep,
         access,
     });
     if let Some(address) = &common.metrics {
@@ -150,7 +143,7 @@ enum Sent {
     /// Nobody knows what became of it.
     Maybe(&'static str),
     /// The server has not got it.
-    Not(&'static str, u32),
+    Not(Refusal),
     /// Nobody waits for it any more.
     Cancelled,
 }
@@ -167,12 +160,6 @@ impl Role for Guard {
             }
         })
     }
-}
-
-/// Tells an exception of which nothing is kept.
-fn refused(name: &str, minor: u32, completed: Completed) -> Answer {
-    metrics().refused.with_label_values(&[name]).inc();
-    Answer::system(name, minor, completed)
 }
 
 impl Guard {
@@ -196,86 +183,72 @@ impl Guard {
 
     /// Performs a request without FT_REQUEST.
     async fn free(&self, asked: Asked) -> Option<Answer> {
+        let (peer, operation) = (asked.peer.clone(), shown(&asked.request.head.operation));
         match self.sends(asked, true).await {
             Sent::Done(answer) => Some(answer),
             Sent::Maybe(name) => {
                 metrics().maybe.inc();
+                let (number, peer) = (peer.number, peer.address);
+                warn!(number, %peer, %operation, "told MAYBE: it has no key");
                 Some(Answer::system(name, 0, Completed::Maybe))
             }
-            Sent::Not(name, minor) => Some(refused(name, minor, Completed::No)),
+            Sent::Not(refusal) => Some(peer.refuses(refusal, None)),
             Sent::Cancelled => None,
         }
     }
 
     /// Performs a request with FT_REQUEST, or answers what became of it.
     async fn keyed(&self, asked: Asked, ft: &Ft) -> Answer {
-        let declined = || refused("TRANSIENT", DECLINED, Completed::No);
-        let bad = || refused("BAD_CONTEXT", 0, Completed::No);
-        let Peer { number, address, names } = &*asked.peer;
-        if self.access.as_ref().is_some_and(|it| !it.may(names, &ft.key.client)) {
-            let client = String::from_utf8_lossy(&ft.key.client);
-            warn!(number, peer = %address, ?names, %client, "it may not use this client id");
-            return refused("NO_PERMISSION", 0, Completed::No);
+        let peer = asked.peer.clone();
+        let refused = |refusal| peer.refuses(refusal, Some(&ft.key));
+        if self.access.as_ref().is_some_and(|it| !it.may(&peer.names, &ft.key.client)) {
+            return refused(Refusal::Stranger);
         }
-        if ft.expiration < Moment::now() {
-            return bad();
+        let now = Moment::now();
+        if ft.expiration < now {
+            return refused(Refusal::Expired);
         }
-        let Some(_held) = self.hold(&ft.key.client) else {
-            return refused("NO_RESOURCES", DECLINED, Completed::No);
-        };
+        if self.keep.is_some_and(|keep| ft.expiration > now + keep) {
+            return refused(Refusal::Keep);
+        }
+        let Some(_held) = self.hold(&ft.key.client) else { return refused(Refusal::Share) };
         point("before-begin");
         match self.store.begin(&ft.key, ft.expiration.0).await {
             Ok(Begun::New) => {}
-            Ok(Begun::Done(outcome)) => {
-                metrics().repeats.inc();
-                return outcome.into();
-            }
-            Ok(Begun::Expired) => return bad(),
+            Ok(Begun::Done { outcome, is_ours }) => return repeated(&ft.key, outcome, is_ours),
+            Ok(Begun::Expired) => return refused(Refusal::Expired),
             // (why it is away is in the log, once)
-            Err(_) => return declined(),
+            Err(_) => return refused(Refusal::Store),
         }
         point("begun");
         let answer = match self.sends(asked, false).await {
             Sent::Done(answer) => answer,
             Sent::Maybe(name) => Answer::system(name, 0, Completed::Maybe),
-            Sent::Not(name, minor) => {
+            Sent::Not(refusal) => {
                 _ = self.store.undo(&ft.key).await;
-                return refused(name, minor, Completed::No);
+                return refused(refusal);
             }
             Sent::Cancelled => Outcome::maybe().into(),
         };
         point("received");
-        let answer = self.finishes(ft, answer).await;
+        let answer = self.finishes(&ft.key, answer).await;
         point("finished");
-        answer
+        answer.unwrap_or_else(|| refused(Refusal::Forgotten))
     }
 
-    /// Keeps what a request is answered, and answers what is kept.
-    async fn finishes(&self, ft: &Ft, answer: Answer) -> Answer {
-        let outcome = answer.outcome().unwrap_or_else(|| {
-            warn!("a body stands where it can't be kept");
-            Outcome::system("IMP_LIMIT", 0, Completed::Yes)
-        });
-        if is_maybe(&outcome) {
-            metrics().maybe.inc();
-            let client = String::from_utf8_lossy(&ft.key.client);
-            warn!(%client, number = ft.key.number, "nobody knows whether it was performed");
-        }
-        match self.store.finish(&ft.key, outcome.clone()).await {
-            Ok(kept) if kept == outcome && answer.body.octets == kept.body => answer,
-            Ok(kept) => kept.into(),
-            Err(error) => {
-                // (it has expired, and is taken out; whether it was told is not known)
-                warn!(%error, "the store");
-                refused("BAD_CONTEXT", 0, Completed::Maybe)
-            }
-        }
+    /// Keeps what a request is answered, and answers what is kept; nothing where it has expired and
+    /// is taken out: whether it was told is not known then.
+    async fn finishes(&self, key: &Key, answer: Answer) -> Option<Answer> {
+        let outcome = answer.outcome();
+        let kept = self.store.finish(key, outcome.clone()).await.ok()?;
+        says_maybe(key, &kept);
+        Some(if kept == outcome { answer } else { kept.into() })
     }
 
     /// Sends a request to a server, and once more where that has not got it.
     async fn sends(&self, mut asked: Asked, may_cancel: bool) -> Sent {
         let mut sent = self.sends_once(&mut asked, may_cancel).await;
-        if matches!(sent, Sent::Not("TRANSIENT", _)) {
+        if matches!(sent, Sent::Not(Refusal::Server)) {
             sent = self.sends_once(&mut asked, may_cancel).await;
         }
         sent
@@ -296,7 +269,7 @@ impl Guard {
             }
         };
         match ended {
-            Ok(Ok(Some(reply))) => self.told(reply),
+            Ok(Ok(Some(reply))) => self.told(reply, asked.peer.found).await,
             Ok(Ok(None)) => Sent::Done(Answer::nothing()),
             Ok(Err(loss)) => lost(loss),
             Err(_) => Sent::Maybe("TIMEOUT"),
@@ -304,8 +277,8 @@ impl Guard {
     }
 
     /// What is told of a server's reply.
-    fn told(&self, reply: Reply) -> Sent {
-        self.guarded.told(reply).map_or_else(
+    async fn told(&self, reply: Reply, found: SocketAddr) -> Sent {
+        self.guarded.told(reply, found).await.map_or_else(
             |why| {
                 warn!(why, "a reply can't be passed on");
                 Sent::Done(Answer::system("IMP_LIMIT", 0, Completed::No))
@@ -318,17 +291,31 @@ impl Guard {
 /// What a loss means.
 fn lost(loss: Loss) -> Sent {
     match loss {
-        Loss::Unsent | Loss::Closed => Sent::Not("TRANSIENT", DECLINED),
-        Loss::Long => Sent::Not("IMP_LIMIT", 0),
+        Loss::Unsent | Loss::Closed => Sent::Not(Refusal::Server),
+        Loss::Long => Sent::Not(Refusal::Long),
         Loss::Lost => Sent::Maybe("COMM_FAILURE"),
     }
 }
 
-/// Whether an outcome says that nobody knows.
-fn is_maybe(outcome: &Outcome) -> bool {
-    ["COMM_FAILURE", "TIMEOUT"]
-        .iter()
-        .any(|name| *outcome == Outcome::system(name, 0, Completed::Maybe))
+/// The answer to a repeat: the outcome of its first, which is ours where this life began it.
+fn repeated(key: &Key, outcome: Outcome, is_ours: bool) -> Answer {
+    metrics().repeats.inc();
+    if !is_ours {
+        metrics().after_restart.inc();
+        says_maybe(key, &outcome);
+    }
+    outcome.into()
+}
+
+/// Counts and says it where an outcome is that nobody knows.
+fn says_maybe(key: &Key, outcome: &Outcome) {
+    let is_of = |name| *outcome == Outcome::system(name, 0, Completed::Maybe);
+    let is_system = outcome.status == Status::SystemException.number();
+    if is_system && ["COMM_FAILURE", "TIMEOUT"].into_iter().any(is_of) {
+        metrics().maybe.inc();
+        let (client, number) = (shown(&key.client), key.number);
+        warn!(%client, number, "told MAYBE: nobody knows whether it was performed");
+    }
 }
 
 /// Ends where a client cancels, and else never.

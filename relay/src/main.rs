@@ -11,6 +11,7 @@ mod guard;
 mod metrics;
 mod points;
 mod pool;
+mod reasons;
 mod reference;
 mod retry;
 mod settings;

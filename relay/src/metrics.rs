@@ -2,8 +2,8 @@
 
 use prometheus::core::Collector;
 use prometheus::{
-    Gauge, Histogram, HistogramOpts, IntCounter, IntCounterVec, IntGauge, Opts, Registry,
-    TextEncoder,
+    Gauge, Histogram, HistogramOpts, HistogramVec, IntCounter, IntCounterVec, IntGauge, Opts,
+    Registry, TextEncoder,
 };
 use std::collections::BTreeMap;
 use std::future::Future;
@@ -21,6 +21,8 @@ const HEAD: usize = 8192;
 const PATIENCE: Duration = Duration::from_secs(5);
 /// How many are answered at once.
 const AT_ONCE: usize = 16;
+/// The first bucket of times, in seconds.
+const SHORTEST: f64 = 0.0001;
 
 /// What is counted.
 pub struct Metrics {
@@ -29,23 +31,28 @@ pub struct Metrics {
     pub requests: IntCounterVec,
     /// Requests that were sent to a server.
     pub performed: IntCounter,
-    /// Requests that were answered by an outcome that was kept.
+    /// Requests that were answered by an outcome that was kept; and those of them whose first was
+    /// begun in another life of a guard.
     pub repeats: IntCounter,
-    /// Requests of which nothing is kept, by the exception that was told.
+    pub after_restart: IntCounter,
+    /// Transmissions to a guard of requests that were sent before.
+    pub sent_again: IntCounter,
+    /// Requests of which nothing is kept, by why.
     pub refused: IntCounterVec,
     /// Requests of which was told that nobody knows.
     pub maybe: IntCounter,
     /// Replies for which nobody waits any more.
     pub late: IntCounter,
-    /// Connections of clients, and those that ended, by why.
+    /// Connections of clients, and those that ended, by why; and the same to servers or guards.
     pub connections: IntGauge,
     pub ended: IntCounterVec,
-    /// Steps of the store that were asked for, and how many wait for what another has begun.
-    pub steps: IntCounterVec,
-    pub waiting: IntGauge,
+    pub lines: IntGauge,
+    pub lines_ended: IntCounterVec,
     /// How long a transaction of the store took, and how many steps it had.
     pub writes: Histogram,
     pub batches: Histogram,
+    steps: HistogramVec,
+    waiting: IntGauge,
     parked: IntGauge,
     oldest: Gauge,
     /// Since when what is under way is, in the order in which it came.
@@ -54,6 +61,12 @@ pub struct Metrics {
 
 /// A request that is under way, as long as this is there.
 pub struct Parked(u64);
+
+/// A request that waits for its first transmission, as long as this is there.
+pub struct Waits(());
+
+/// A step of the store that is being taken, as long as this is there.
+pub struct Takes(&'static str, Instant);
 
 /// What is counted of this process.
 pub fn metrics() -> &'static Metrics {
@@ -85,10 +98,18 @@ fn gauge(registry: &Registry, name: &str, help: &str) -> IntGauge {
     taken(registry, IntGauge::new(name_of(name), help))
 }
 
-fn histogram(registry: &Registry, name: &str, help: &str, start: f64) -> Histogram {
+fn options_of(name: &str, help: &str, start: f64) -> HistogramOpts {
     let buckets = prometheus::exponential_buckets(start, 2.0, 14).expect("buckets that grow");
-    let options = HistogramOpts::new(name_of(name), help).buckets(buckets);
-    taken(registry, Histogram::with_opts(options))
+    HistogramOpts::new(name_of(name), help).buckets(buckets)
+}
+
+fn histogram(registry: &Registry, name: &str, help: &str, start: f64) -> Histogram {
+    taken(registry, Histogram::with_opts(options_of(name, help, start)))
+}
+
+/// Times of what differs in one word.
+fn histograms(registry: &Registry, name: &str, help: &str, word: &str) -> HistogramVec {
+    taken(registry, HistogramVec::new(options_of(name, help, SHORTEST), &[word]))
 }
 
 impl Metrics {
@@ -100,14 +121,27 @@ impl Metrics {
             requests: counts(it, "requests_total", "Requests that came", "keyed"),
             performed: count(it, "performed_total", "Requests that were sent to a server"),
             repeats: count(it, "repeats_total", "Requests answered by an outcome that was kept"),
+            after_restart: count(
+                it,
+                "repeats_after_restart_total",
+                "Those of them whose first was begun in another life of a guard",
+            ),
+            sent_again: count(it, "sent_again_total", "Transmissions that are not the first"),
             refused: counts(it, "refused_total", "Requests of which nothing is kept", "reason"),
             maybe: count(it, "maybe_total", "Requests told that nobody knows"),
             late: count(it, "late_total", "Replies for which nobody waits any more"),
             connections: gauge(it, "connections", "Connections of clients"),
             ended: counts(it, "connections_ended_total", "Connections that ended", "why"),
-            steps: counts(it, "store_steps_total", "Steps that were taken in the store", "step"),
-            waiting: gauge(it, "store_waiting", "Requests that wait for their first transmission"),
-            writes: histogram(it, "store_write_seconds", "Time of a transaction", 0.0001),
+            lines: gauge(it, "server_connections", "Connections to servers or guards"),
+            lines_ended: counts(
+                it,
+                "server_connections_ended_total",
+                "Connections to servers or guards that ended",
+                "why",
+            ),
+            steps: histograms(it, "store_step_seconds", "Time of a step of the store", "step"),
+            waiting: gauge(it, "waiting", "Requests that wait for their first transmission"),
+            writes: histogram(it, "store_write_seconds", "Time of a transaction", SHORTEST),
             batches: histogram(it, "store_write_steps", "Steps of a transaction", 1.0),
             parked: gauge(it, "parked", "Requests under way"),
             oldest: taken(it, Gauge::new(name_of(oldest.0), oldest.1)),
@@ -127,6 +161,20 @@ impl Metrics {
         Parked(number)
     }
 
+    /// Counts a request as one that waits for its first transmission, until what is answered is
+    /// dropped.
+    #[must_use]
+    pub fn waits(&self) -> Waits {
+        self.waiting.inc();
+        Waits(())
+    }
+
+    /// Takes the time of a step, until what is answered is dropped.
+    #[must_use]
+    pub fn takes(&self, step: &'static str) -> Takes {
+        Takes(step, Instant::now())
+    }
+
     /// All of it, as Prometheus reads it.
     pub fn text(&self) -> String {
         let since = self.since.lock().unwrap_or_else(PoisonError::into_inner);
@@ -142,6 +190,19 @@ impl Drop for Parked {
         let all = metrics();
         all.since.lock().unwrap_or_else(PoisonError::into_inner).1.remove(&self.0);
         all.parked.dec();
+    }
+}
+
+impl Drop for Waits {
+    fn drop(&mut self) {
+        metrics().waiting.dec();
+    }
+}
+
+impl Drop for Takes {
+    fn drop(&mut self) {
+        let all = metrics();
+        all.steps.with_label_values(&[self.0]).observe(self.1.elapsed().as_secs_f64());
     }
 }
 

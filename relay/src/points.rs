@@ -1,14 +1,18 @@
-//! Named points at which the program aborts, for tests of what a crash leaves.
+//! Named points at which the program aborts or stops, for tests of what others do then.
 
 use std::env;
-use std::process::abort;
+use std::process::{abort, id, Command};
 use std::sync::atomic::{AtomicU64, Ordering};
 use std::sync::OnceLock;
+use std::thread::sleep;
+use std::time::Duration;
 
-/// The variable that names the point, as `sent`, or as `sent:3` for its third time.
-const VARIABLE: &str = "LEMONRUDDER_KILL";
+/// The variables that name the point at which it aborts, and the one at which it stops until it is
+/// continued, as `sent`, or as `sent:3` for its third time.
+const ABORTS: &str = "LEMONRUDDER_KILL";
+const STOPS: &str = "LEMONRUDDER_STOP";
 
-/// A point, and how often it is passed before the program aborts there.
+/// A point, and how often it is passed before something is done there.
 struct Fatal {
     name: String,
     left: AtomicU64,
@@ -21,18 +25,26 @@ impl Fatal {
         Fatal { name: name.to_owned(), left: AtomicU64::new(count.parse().unwrap_or(1)) }
     }
 
-    /// Whether the program ends here.
+    /// Whether it is to be done here.
     fn is_reached(&self, name: &str) -> bool {
         self.name == name && self.left.fetch_sub(1, Ordering::Relaxed) == 1
     }
 }
 
-/// Aborts the program where the environment says that it does at this point.
+/// Aborts or stops the program where the environment says that it does at this point.
 pub fn point(name: &str) {
-    static FATAL: OnceLock<Option<Fatal>> = OnceLock::new();
-    let fatal = FATAL.get_or_init(|| env::var(VARIABLE).ok().map(|words| Fatal::of(&words)));
-    if fatal.as_ref().is_some_and(|fatal| fatal.is_reached(name)) {
+    static FATAL: OnceLock<[Option<Fatal>; 2]> = OnceLock::new();
+    let named = |variable| env::var(variable).ok().map(|words| Fatal::of(&words));
+    let fatal = FATAL.get_or_init(|| [ABORTS, STOPS].map(named));
+    let [aborts, stops] =
+        fatal.each_ref().map(|it| it.as_ref().is_some_and(|it| it.is_reached(name)));
+    if aborts {
         abort();
+    }
+    if stops {
+        _ = Command::new("kill").args(["-STOP", &id().to_string()]).status();
+        // (all threads stop soon)
+        sleep(Duration::from_secs(1));
     }
 }
 

@@ -5,19 +5,22 @@
 
 use crate::compose::{self, Body, Contexts, Head};
 use crate::forward::{self, Answer, CODE_SETS};
-use crate::frames::{Frames, Taken};
+use crate::frames::Frames;
 use crate::metrics::metrics;
 use crate::points::point;
+use crate::reasons;
 use crate::tls::Connector;
-use crate::wire::{self, locked, Stream};
+use crate::wire::{self, locked, Reading, Stream, Writing};
 use lemonrudder::{write, Assembler, Completed, Limits, MessageType, Order, Version, Wish};
-use std::collections::HashMap;
+use std::collections::{BTreeMap, HashMap};
 use std::io;
+use std::net::SocketAddr;
 use std::sync::atomic::{AtomicU32, Ordering};
 use std::sync::{Arc, Mutex};
 use std::time::{Duration, Instant};
-use tokio::io::{AsyncReadExt, AsyncWriteExt, ReadHalf, WriteHalf};
-use tokio::sync::{mpsc, oneshot};
+use tokio::io::{AsyncReadExt, AsyncWriteExt};
+use tokio::select;
+use tokio::sync::{mpsc, oneshot, Notify};
 use tokio::task::JoinHandle;
 use tokio::time::{sleep_until, timeout};
 use tracing::{info, warn};
@@ -25,9 +28,11 @@ use tracing::{info, warn};
 /// What is written at once, where there is so much.
 const BATCH: usize = 1 << 16;
 /// A peer has to take what is due to it within this time.
-const UNWRITTEN: Duration = Duration::from_secs(60);
+pub const UNWRITTEN: Duration = Duration::from_secs(60);
 /// The pause after the first attempt to connect that failed, and the longest.
 const PAUSES: (Duration, Duration) = (Duration::from_millis(50), Duration::from_secs(2));
+/// How long who asks whether a server is there waits at most.
+const SHORTLY: Duration = Duration::from_secs(2);
 /// For how many code sets there are connections.
 const CLASSES: usize = 64;
 
@@ -76,7 +81,7 @@ enum Due {
 #[derive(Default)]
 struct Waiting {
     is_over: bool,
-    requests: HashMap<u32, oneshot::Sender<Ending>>,
+    requests: BTreeMap<u32, oneshot::Sender<Ending>>,
 }
 
 /// A connection.
@@ -84,6 +89,8 @@ struct Line {
     next: AtomicU32,
     due: mpsc::UnboundedSender<Due>,
     waiting: Mutex<Waiting>,
+    /// Told, where nobody uses it any more.
+    left: Notify,
 }
 
 /// Connections for requests of the same code sets.
@@ -112,14 +119,24 @@ impl Places for Vec<String> {
     }
 }
 
+/// How connections are opened, and how many.
+#[derive(Clone, Default)]
+pub struct Terms {
+    pub tls: Option<Connector>,
+    /// How many connections there are at most, of each class.
+    pub most: usize,
+    /// For how long a connection may be without requests.
+    pub idle: Duration,
+    /// How long what is sent may be unconfirmed by the peer's system.
+    pub unconfirmed: Duration,
+    /// Where this program listens itself.
+    pub own: Vec<SocketAddr>,
+}
+
 /// Connections to one server, or to what stands for it.
 pub struct Pool {
     places: Box<dyn Places>,
-    tls: Option<Connector>,
-    /// How many connections there are at most, of each class.
-    most: usize,
-    /// For how long a connection may be without requests.
-    idle: Duration,
+    terms: Terms,
     classes: Mutex<HashMap<Vec<u8>, Arc<Class>>>,
 }
 
@@ -133,18 +150,13 @@ pub struct Pending {
 
 impl Pool {
     #[must_use]
-    pub fn new(
-        places: Box<dyn Places>,
-        tls: Option<Connector>,
-        most: usize,
-        idle: Duration,
-    ) -> Arc<Pool> {
-        Arc::new(Pool { places, tls, most: most.max(1), idle, classes: Mutex::default() })
+    pub fn new(places: Box<dyn Places>, terms: Terms) -> Arc<Pool> {
+        Arc::new(Pool { places, terms, classes: Mutex::default() })
     }
 
-    /// Whether a connection is there, or can be.
+    /// Whether a connection is there, or is within a short time.
     pub async fn is_there(self: &Arc<Self>) -> bool {
-        self.line(&[]).await.is_ok()
+        matches!(timeout(SHORTLY, self.line(&[])).await, Ok(Ok(_)))
     }
 
     /// A connection of its own, to an address.
@@ -153,7 +165,7 @@ impl Pool {
     ///
     /// As of [`wire::connect`].
     pub async fn connects(&self, address: &str) -> io::Result<Stream> {
-        wire::connect(address, self.tls.as_ref()).await
+        wire::connect(address, &self.terms).await
     }
 
     /// Hands a request to a connection.
@@ -176,7 +188,7 @@ impl Pool {
     /// new one.
     async fn line(self: &Arc<Self>, sets: &[u8]) -> Result<Arc<Line>, Loss> {
         let class = self.class(sets)?;
-        if let Some((line, is_busy)) = class.best(self.most) {
+        if let Some((line, is_busy)) = class.best(self.terms.most) {
             if is_busy {
                 let (pool, class) = (self.clone(), class.clone());
                 tokio::spawn(async move {
@@ -189,7 +201,7 @@ impl Pool {
         }
         let since = Instant::now();
         let mut opening = class.opening.lock().await;
-        if let Some((line, _)) = class.best(self.most) {
+        if let Some((line, _)) = class.best(self.terms.most) {
             return Ok(line);
         }
         if opening.failed.is_some_and(|failed| failed > since) {
@@ -205,12 +217,10 @@ impl Pool {
             return Ok(class.clone());
         }
         if classes.len() >= CLASSES {
-            classes.retain(|_, class| {
-                Arc::strong_count(class) > 1 || !locked(&class.lines).is_empty()
-            });
-        }
-        if classes.len() >= CLASSES {
-            return Err(Loss::Unsent);
+            // (what holds one beside this are its connections, and requests that look for one)
+            let idle =
+                classes.iter().find(|(_, class)| class.ends_idle()).map(|(sets, _)| sets.clone());
+            classes.remove(&idle.ok_or(Loss::Unsent)?);
         }
         Ok(classes.entry(sets.to_vec()).or_default().clone())
     }
@@ -225,7 +235,7 @@ impl Pool {
             sleep_until((failed + opening.pause).into()).await;
         }
         for address in self.places.addresses() {
-            match wire::connect(&address, self.tls.as_ref()).await {
+            match self.connects(&address).await {
                 Ok(stream) => {
                     *opening = Opening::default();
                     return Ok(self.begin(class, address, stream));
@@ -241,14 +251,18 @@ impl Pool {
     /// Begins with a connection.
     fn begin(self: &Arc<Self>, class: &Arc<Class>, address: String, stream: Stream) -> Arc<Line> {
         info!(server = %address, "connected");
-        let (reading, writing) = tokio::io::split(stream);
+        metrics().lines.inc();
+        let (reading, writing) = stream.halves();
         let (due, dues) = mpsc::unbounded_channel();
-        let line = Arc::new(Line { next: AtomicU32::new(1), due, waiting: Mutex::default() });
+        let (next, waiting, left) = (AtomicU32::new(1), Mutex::default(), Notify::new());
+        let line = Arc::new(Line { next, due, waiting, left });
         locked(&class.lines).push(line.clone());
         let writer = tokio::spawn(writes(line.clone(), writing, dues));
         let (pool, class, read) = (self.clone(), class.clone(), line.clone());
         tokio::spawn(async move {
             let (why, loss) = reads(&pool, &read, reading, &writer).await;
+            metrics().lines.dec();
+            metrics().lines_ended.with_label_values(&[why]).inc();
             info!(server = %address, why, "ended");
             locked(&class.lines).retain(|line| !Arc::ptr_eq(line, &read));
             read.end(loss);
@@ -266,6 +280,17 @@ impl Class {
         let (load, line) = loads.min_by_key(|(load, _)| *load)?;
         Some((line.clone(), load > 0 && lines.len() < most))
     }
+
+    /// Ends its connections, where nothing waits on any, and nobody looks for one: whether that is so.
+    fn ends_idle(self: &Arc<Class>) -> bool {
+        let lines = locked(&self.lines);
+        let is_idle = Arc::strong_count(self) == 1 + lines.len()
+            && lines.iter().all(|line| line.load().unwrap_or(0) == 0);
+        for line in lines.iter().filter(|line| is_idle && line.ends_idle()) {
+            line.left.notify_one();
+        }
+        is_idle
+    }
 }
 
 impl Line {
@@ -279,7 +304,7 @@ impl Line {
     fn end(&self, loss: Loss) {
         let mut waiting = locked(&self.waiting);
         waiting.is_over = true;
-        for (_, ended) in waiting.requests.drain() {
+        for (_, ended) in std::mem::take(&mut waiting.requests) {
             _ = ended.send(Err(loss));
         }
     }
@@ -337,11 +362,7 @@ impl Line {
 }
 
 /// Writes what is due on a connection, until it is over.
-async fn writes(
-    line: Arc<Line>,
-    mut half: WriteHalf<Stream>,
-    mut dues: mpsc::UnboundedReceiver<Due>,
-) {
+async fn writes(line: Arc<Line>, mut half: Writing, mut dues: mpsc::UnboundedReceiver<Due>) {
     let mut octets = Vec::new();
     while let Some(first) = dues.recv().await {
         octets.clear();
@@ -370,7 +391,7 @@ async fn writes(
 async fn reads(
     pool: &Pool,
     line: &Line,
-    mut half: ReadHalf<Stream>,
+    mut half: Reading,
     writer: &JoinHandle<()>,
 ) -> (&'static str, Loss) {
     let message = u32::try_from(compose::LONGEST).unwrap_or(u32::MAX);
@@ -380,7 +401,11 @@ async fn reads(
     };
     let (mut frames, mut room) = (Frames::new(compose::LONGEST), vec![0; BATCH]);
     loop {
-        let size = match timeout(pool.idle, half.read(&mut room)).await {
+        let read = select! {
+            read = timeout(pool.terms.idle, half.read(&mut room)) => read,
+            () = line.left.notified() => return ("others had to be opened", Loss::Unsent),
+        };
+        let size = match read {
             Ok(Ok(0)) => return ("it was closed without a goodbye", Loss::Lost),
             Ok(Ok(size)) => size,
             Ok(Err(error)) => return (named(&error), Loss::Lost),
@@ -391,10 +416,7 @@ async fn reads(
         let mut octets = &room[..size];
         while !octets.is_empty() {
             let taken = frames.take(&mut octets);
-            if let Taken::Long { id, .. } = taken {
-                line.answers(id, Reply::long());
-            }
-            if let Err(end) = takes(line, &mut assembler, taken.octets()) {
+            if let Err(end) = takes(line, &mut assembler, taken.octets(), frames.is_cut()) {
                 return end;
             }
         }
@@ -414,18 +436,18 @@ fn takes(
     line: &Line,
     assembler: &mut Assembler,
     mut octets: &[u8],
+    is_long: bool,
 ) -> Result<(), (&'static str, Loss)> {
     while !octets.is_empty() {
-        let fed = assembler
-            .feed(octets)
-            .map_err(|_| ("what came is no GIOP, or too long", Loss::Lost))?;
+        let fed = assembler.feed(octets);
+        let fed = fed.map_err(|_| (reasons::of_fault(assembler.fault()), Loss::Lost))?;
         octets = &octets[fed..];
         let message = assembler.message().map_err(|_| ("memory is short", Loss::Lost))?;
         let Some(mut message) = message else { continue };
         match message.message_type() {
             MessageType::Reply => {
-                let (id, reply) = (message.request_id(), forward::reply_of(&mut message));
-                line.answers(id, reply);
+                let reply = if is_long { Reply::long() } else { forward::reply_of(&mut message) };
+                line.answers(message.request_id(), reply);
             }
             MessageType::CloseConnection => return Err(("it said CloseConnection", Loss::Closed)),
             MessageType::MessageError => return Err(("it said MessageError", Loss::Lost)),

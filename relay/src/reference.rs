@@ -3,6 +3,8 @@
 use lemonrudder::cdr::Writer;
 use lemonrudder::{Address, Error, Ior, Order, Profile};
 use std::fmt::Write;
+use std::fs;
+use std::path::Path;
 
 /// The tag of a profile of IIOP (CORBA 3.3 Part 2, 7.6.2).
 const TAG_INTERNET_IOP: u32 = 0;
@@ -36,6 +38,19 @@ pub fn at(reference: &str, host: &str, port: u16) -> Result<String, String> {
         return Err("this reference has no profile of IIOP".into());
     }
     written(&type_id, &profiles).map_err(|error| error.to_string())
+}
+
+/// The host and the port that the reference in a file says.
+///
+/// # Errors
+///
+/// Says why not: it can't be read, or has no reference, or none of IIOP.
+pub fn place_in(file: &Path) -> Result<(String, u16), String> {
+    let text = fs::read_to_string(file).map_err(|error| error.to_string())?;
+    let mut ior: Ior = text.trim().parse().map_err(|_| "it has no reference")?;
+    let address = ior.address().map_err(|error| error.to_string())?;
+    let address = address.ok_or("its reference has no profile of IIOP")?;
+    Ok((String::from_utf8_lossy(&address.host).into_owned(), address.port))
 }
 
 /// A profile of the same key and version at this address (9.7.2).

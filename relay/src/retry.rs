@@ -6,17 +6,19 @@
 //! again after each loss, on any connection to any guard, with the same key and the same expiration.
 
 use crate::compose::{Body, Head};
-use crate::forward::{Answer, Request, FT_REQUEST};
-use crate::front::{self, Answering, Asked, Bounds, Role};
+use crate::forward::{Answer, Request, FT_REQUEST, PROFILES};
+use crate::front::{self, Answering, Asked, Bounds, Peer, Role};
 use crate::guard::DECLINED;
 use crate::metrics::{self, metrics, Trouble};
 use crate::points::point;
-use crate::pool::{Loss, Pool, Reply};
+use crate::pool::{Loss, Pool, Reply, Terms};
+use crate::reasons::Refusal;
 use crate::settings;
 use crate::store::Key;
 use crate::tls::Connector;
 use crate::upstream::Upstream;
-use crate::wire;
+use crate::wire::{self, shown};
+use futures_util::future::join_all;
 use lemonrudder::cdr::Reader;
 use lemonrudder::{write, Completed, Error, FtRequest, Ior, Moment, Status, Wish};
 use std::fmt::Write;
@@ -34,6 +36,8 @@ const PAUSES: (Duration, Duration) = (Duration::from_millis(20), Duration::from_
 const SLACK: Duration = Duration::from_secs(10);
 /// After how long without a reply a guard is asked whether it is there.
 const SILENCE: Duration = Duration::from_secs(5);
+/// How long what is sent to a guard may be unconfirmed by its system.
+const UNCONFIRMED: Duration = Duration::from_secs(15);
 /// How often a request is led on.
 const HOPS: u32 = 16;
 
@@ -48,10 +52,12 @@ const REQUESTS: usize = 4096;
 pub async fn run(settings: settings::Retry) -> Result<(), String> {
     let settings::Retry { common, guard, name } = settings;
     let keys = Keys::open(&name).map_err(|error| format!("random numbers: {error}"))?;
+    let listeners = front::listen(&common.listen).await?;
     let mut guards = Vec::new();
     for address in guard {
-        let (places, tls) = (vec![address.clone()], Connector::open(&common.tls)?);
-        let pool = Pool::new(Box::new(places), tls, common.connections, common.limits.idle);
+        let tls = Connector::open(&common.tls)?;
+        let terms = Terms { tls, ..common.terms(UNCONFIRMED, &listeners) };
+        let pool = Pool::new(Box::new(vec![address.clone()]), terms);
         guards.push((address, pool));
     }
     if let Some(address) = &common.metrics {
@@ -59,21 +65,17 @@ pub async fn run(settings: settings::Retry) -> Result<(), String> {
         let ready = move || Box::pin(trouble(pools.clone())) as Trouble;
         metrics::listen(address, ready).await?;
     }
-    let listeners = front::listen(&common.listen).await?;
+    let own = wire::all_parts(&[&common.published[..], &common.listen].concat());
     let bounds = Bounds { limits: common.limits, requests: REQUESTS, drain: common.drain };
-    let role = Retry::new(guards, keys, common.timeout);
+    let role = Retry::new(guards, own, keys, common.timeout);
     front::serve(role, listeners, None, bounds, wire::ended()).await;
     Ok(())
 }
 
 /// What keeps it from being ready.
 async fn trouble(guards: Vec<Arc<Pool>>) -> Option<String> {
-    for guard in guards {
-        if guard.is_there().await {
-            return None;
-        }
-    }
-    Some("no guard can be reached".to_owned())
+    let are_there = join_all(guards.iter().map(Pool::is_there)).await;
+    (!are_there.contains(&true)).then(|| "no guard can be reached".to_owned())
 }
 
 /// The keys of requests: each is given once.
@@ -126,6 +128,8 @@ struct Call {
     ends: Instant,
     /// On how many connections it was sent, or may have been.
     sent: u32,
+    /// How often it was handed to a connection.
+    transmissions: u32,
     /// The guard to which it was led, by its index, and how often it was led on.
     led: Option<usize>,
     hops: u32,
@@ -137,13 +141,15 @@ enum Next {
     Done(Answer),
     /// It is no outcome: send it again.
     Again,
-    /// Send it to this guard, with this key of the object.
-    At(usize, Vec<u8>),
+    /// Send it to this guard, or to any, with this key of the object.
+    At(Option<usize>, Vec<u8>),
 }
 
 /// The relay beside clients.
 pub struct Retry {
     guards: Vec<Arc<Upstream>>,
+    /// Where clients find this relay.
+    own: Vec<(String, u16)>,
     keys: Keys,
     timeout: Duration,
     /// Changes where a guard can be reached again.
@@ -155,7 +161,7 @@ impl Role for Retry {
         Box::pin(async move {
             metrics().requests.with_label_values(&["no"]).inc();
             let _parked = metrics().park();
-            self.call(asked.request).await
+            Some(self.call(&asked.peer, asked.request).await)
         })
     }
 }
@@ -163,25 +169,30 @@ impl Role for Retry {
 impl Retry {
     /// A relay before guards, each with its address.
     #[must_use]
-    pub fn new(guards: Vec<(String, Arc<Pool>)>, keys: Keys, timeout: Duration) -> Arc<Retry> {
+    pub fn new(
+        guards: Vec<(String, Arc<Pool>)>,
+        own: Vec<(String, u16)>,
+        keys: Keys,
+        timeout: Duration,
+    ) -> Arc<Retry> {
         let (told, ups) = watch::channel(0);
         let told = Arc::new(told);
         let guards = guards.into_iter().map(|(address, pool)| Upstream::new(address, pool, &told));
-        Arc::new(Retry { guards: guards.collect(), keys, timeout, ups })
+        Arc::new(Retry { guards: guards.collect(), own, keys, timeout, ups })
     }
 
     /// Sends a request until it is answered, or its time is over.
-    async fn call(&self, request: Request) -> Option<Answer> {
+    async fn call(&self, peer: &Peer, request: Request) -> Answer {
         point("asked");
         let Ok(mut call) = self.keyed(request) else {
-            return Some(Answer::system("NO_MEMORY", 0, Completed::No));
+            return peer.refuses(Refusal::Memory, None);
         };
-        let answer = match timeout_at(call.ends, self.sends(&mut call)).await {
-            Ok(answer) => answer,
+        let ended = match timeout_at(call.ends, self.sends(&mut call)).await {
+            Ok(ended) => ended,
             Err(_) => over(&call),
         };
         point("completed");
-        Some(answer)
+        ended.unwrap_or_else(|refusal| peer.refuses(refusal, Some(&call.key)))
     }
 
     /// A request with its key in FT_REQUEST. A one way call asks for a reply, so that it is known
@@ -204,17 +215,17 @@ impl Retry {
             head.wish = Wish::Full;
         }
         let object = head.key.clone();
-        Ok(Call { key, head, body, object, ends, sent: 0, led: None, hops: 0 })
+        Ok(Call { key, head, body, object, ends, sent: 0, transmissions: 0, led: None, hops: 0 })
     }
 
     /// Sends a request until it is answered.
-    async fn sends(&self, call: &mut Call) -> Answer {
+    async fn sends(&self, call: &mut Call) -> Result<Answer, Refusal> {
         let mut pause = Duration::ZERO;
         loop {
             let guard = self.guard_of(call).await;
             let next = match transmits(&guard, call).await {
-                Ok(reply) => self.judges(&reply, call),
-                Err(Loss::Long) => Next::Done(Answer::system("IMP_LIMIT", 0, Completed::No)),
+                Ok(reply) => self.judges(&reply, call).await,
+                Err(Loss::Long) => return Err(Refusal::Long),
                 Err(Loss::Unsent) => {
                     guard.is_lost();
                     continue;
@@ -222,9 +233,9 @@ impl Retry {
                 Err(Loss::Closed | Loss::Lost) => Next::Again,
             };
             match next {
-                Next::Done(answer) => return answer,
+                Next::Done(answer) => return Ok(answer),
                 Next::At(index, object) => {
-                    (call.led, call.head.key) = (Some(index), object);
+                    (call.led, call.head.key) = (index, object);
                     call.hops += 1;
                 }
                 Next::Again => {
@@ -258,13 +269,13 @@ impl Retry {
     }
 
     /// What follows from a reply to a request.
-    fn judges(&self, reply: &Reply, call: &Call) -> Next {
+    async fn judges(&self, reply: &Reply, call: &Call) -> Next {
         let is = |status: Status| reply.status == status.number();
         if is(Status::SystemException) {
             return refused(reply, call.sent);
         }
         if is(Status::LocationForward) || is(Status::LocationForwardPerm) {
-            return self.led(reply, call.hops);
+            return self.led(reply, call.hops).await;
         }
         if is(Status::NeedsAddressingMode) {
             return Next::Done(Answer::system("IMP_LIMIT", 0, Completed::No));
@@ -273,21 +284,38 @@ impl Retry {
     }
 
     /// Where a reply leads that forwards: nobody has performed the request then.
-    fn led(&self, reply: &Reply, hops: u32) -> Next {
-        let body = &reply.body;
-        let read = Ior::read(&mut Reader::at(&body.octets, reply.order, body.place));
-        if let (Ok(mut ior), true) = (read, hops < HOPS) {
-            for address in ior.profiles().filter_map(|profile| profile.ok()?.address) {
-                let host = String::from_utf8_lossy(&address.host).into_owned();
-                let index = self.guards.iter().position(|guard| guard.is_at(&host, address.port));
-                if let Some(index) = index {
-                    return Next::At(index, address.key);
-                }
+    async fn led(&self, reply: &Reply, hops: u32) -> Next {
+        let places = places_in(reply);
+        for (place, key) in places.iter().filter(|_| hops < HOPS) {
+            if let Some(index) = self.guard_at(place).await {
+                return Next::At(index, key.clone());
             }
         }
-        warn!("a reply leads to where no guard of the list is");
+        let places: Vec<String> = places.into_iter().map(|(place, _)| place.0).collect();
+        warn!(?places, "a reply leads to where no guard of the list is");
         Next::Done(Answer::system("IMP_LIMIT", 0, Completed::No))
     }
+
+    /// The guard at an address, by its index, or any where it is this relay's own address.
+    async fn guard_at(&self, place: &(String, u16)) -> Option<Option<usize>> {
+        for (index, guard) in self.guards.iter().enumerate() {
+            if wire::is_among(place, &guard.place()).await {
+                return Some(Some(index));
+            }
+        }
+        wire::is_among(place, &self.own).await.then_some(None)
+    }
+}
+
+/// Where the reference leads that a reply has, and the keys there, by its first profiles.
+fn places_in(reply: &Reply) -> Vec<((String, u16), Vec<u8>)> {
+    let body = &reply.body;
+    let read = Ior::read(&mut Reader::at(&body.octets, reply.order, body.place));
+    let Ok(mut ior) = read else { return Vec::new() };
+    let addresses = ior.profiles().filter_map(|profile| profile.ok()?.address);
+    let places =
+        addresses.map(|it| ((String::from_utf8_lossy(&it.host).into_owned(), it.port), it.key));
+    places.take(PROFILES).collect()
 }
 
 /// Sends a request to a guard, and waits for its reply. Where nothing comes for long, the guard is
@@ -296,6 +324,10 @@ async fn transmits(guard: &Arc<Upstream>, call: &mut Call) -> Result<Reply, Loss
     let mut state = guard.state();
     let mut pending = guard.pool().send(&call.head, &call.body).await?;
     call.sent += 1;
+    call.transmissions += 1;
+    if call.transmissions > 1 {
+        metrics().sent_again.inc();
+    }
     loop {
         select! {
             ended = pending.reply() => match ended {
@@ -346,13 +378,14 @@ fn passed(reply: &Reply) -> Answer {
 }
 
 /// What is told of a request whose time is over.
-fn over(call: &Call) -> Answer {
+fn over(call: &Call) -> Result<Answer, Refusal> {
     if call.sent == 0 {
-        return Answer::system("TIMEOUT", 0, Completed::No);
+        return Err(Refusal::Time);
     }
-    let (client, number) = (String::from_utf8_lossy(&call.key.client), call.key.number);
+    metrics().maybe.inc();
+    let (client, number) = (shown(&call.key.client), call.key.number);
     warn!(%client, number, sent = call.sent, "told MAYBE: its time is over");
-    Answer::system("TIMEOUT", 0, Completed::Maybe)
+    Ok(Answer::system("TIMEOUT", 0, Completed::Maybe))
 }
 
 #[cfg(test)]
@@ -364,15 +397,15 @@ mod tests {
     use lemonrudder::{Order, Version};
 
     fn of(outcome: Outcome) -> Reply {
-        let body = Body { octets: outcome.body, place: 0 };
+        let body = Body { octets: outcome.body, place: outcome.place.into() };
         Reply { status: outcome.status, order: outcome.order, contexts: Contexts::new(), body }
     }
 
     fn relay(guards: &[&str]) -> Arc<Retry> {
-        let idle = Duration::from_secs(60);
-        let pool = |address: &str| Pool::new(Box::new(vec![address.to_owned()]), None, 1, idle);
+        let pool = |address: &str| Pool::new(Box::new(vec![address.to_owned()]), Terms::default());
         let guards = guards.iter().map(|address| (address.to_string(), pool(address))).collect();
-        Retry::new(guards, Keys::open("retry").unwrap(), Duration::from_secs(60))
+        let (own, keys) = (vec![("10.0.0.9".to_owned(), 2809)], Keys::open("retry").unwrap());
+        Retry::new(guards, own, keys, Duration::from_secs(60))
     }
 
     fn request(ft: Option<crate::forward::Ft>, wish: Wish) -> Request {
@@ -436,8 +469,10 @@ mod tests {
     async fn a_forward_leads_to_a_guard_of_the_list() {
         let relay = relay(&["10.0.0.1:2809", "[::1]:2810"]);
         for (host, port, hops, next) in [
-            ("10.0.0.1", 2809, 0, Some(0)),
-            ("::1", 2810, 3, Some(1)),
+            ("10.0.0.1", 2809, 0, Some(Some(0))),
+            ("::1", 2810, 3, Some(Some(1))),
+            ("0:0::1", 2810, 3, Some(Some(1))),
+            ("10.0.0.9", 2809, 3, Some(None)),
             ("::1", 2809, 0, None),
             ("10.0.0.2", 2809, 0, None),
             ("10.0.0.1", 2809, HOPS, None),
@@ -452,7 +487,7 @@ mod tests {
                 Some(index) => Next::At(index, b"there".to_vec()),
                 None => Next::Done(Answer::system("IMP_LIMIT", 0, Completed::No)),
             };
-            assert_eq!(relay.led(&reply, hops), wanted, "{host} {port}");
+            assert_eq!(relay.led(&reply, hops).await, wanted, "{host} {port}");
         }
     }
 
@@ -460,8 +495,8 @@ mod tests {
     async fn whose_time_is_over_is_told_whether_it_was_sent() {
         let relay = relay(&["127.0.0.1:1"]);
         let mut call = relay.keyed(request(None, Wish::Full)).unwrap();
-        assert_eq!(over(&call), Answer::system("TIMEOUT", 0, Completed::No));
+        assert_eq!(over(&call), Err(Refusal::Time));
         call.sent = 1;
-        assert_eq!(over(&call), Answer::system("TIMEOUT", 0, Completed::Maybe));
+        assert_eq!(over(&call), Ok(Answer::system("TIMEOUT", 0, Completed::Maybe)));
     }
 }

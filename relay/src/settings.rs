@@ -11,7 +11,10 @@
 //! What words say counts in place of what the file says. Both are read in one way: each setting of
 //! the file is made the word that says the same.
 
-use crate::{access, tls};
+use crate::compose::LONGEST;
+use crate::pool::Terms;
+use crate::store::Store;
+use crate::{access, front, reference, tls};
 use clap::parser::ValueSource;
 use clap::{Args, CommandFactory, FromArgMatches, Parser, Subcommand, ValueEnum};
 use std::collections::BTreeMap;
@@ -20,7 +23,12 @@ use std::fmt::Display;
 use std::fs;
 use std::path::{Path, PathBuf};
 use std::time::Duration;
+use tokio::net::TcpListener;
 use toml::{Spanned, Value};
+
+/// What stands above some of them in the help.
+const OF_LIMITS: &str = "Limits";
+const OF_TLS: &str = "TLS between retry and guard";
 
 /// Exactly once between ORBs that know nothing of it: GIOP relays with FT_REQUEST.
 #[derive(Debug, Parser)]
@@ -42,9 +50,7 @@ pub enum Role {
 /// Stands before servers: a request that comes again is answered by the outcome of its first
 #[derive(Debug, Args)]
 pub struct Guard {
-    #[command(flatten)]
-    pub common: Common,
-    /// A server to which requests go; several take turns
+    /// A server; of several, which serve the same objects, the first that can be reached is asked
     #[arg(long, value_name = "HOST:PORT", value_parser = address)]
     pub server: Vec<String>,
     /// A file with a server's reference, read again whenever it is connected
@@ -56,28 +62,35 @@ pub struct Guard {
     /// After how long without a sign another guard of the store takes this one for lost
     #[arg(long, value_name = "SECONDS", default_value = "10", value_parser = seconds)]
     pub lease: Duration,
-    /// Which client ids the holder of a certificate may use
-    #[arg(long, value_name = "FILE", requires = "authorities")]
-    pub clients: Option<PathBuf>,
+    /// How long an outcome is kept at most: what expires later is refused
+    #[arg(long, value_name = "SECONDS", value_parser = seconds, help_heading = OF_LIMITS)]
+    pub keep: Option<Duration>,
     /// Requests under way at most
     #[arg(long, value_name = "N", default_value = "4096", value_parser = count)]
+    #[arg(help_heading = OF_LIMITS)]
     pub parked: usize,
     /// Requests under way at most of one client id
     #[arg(long, value_name = "N", default_value = "1024", value_parser = count)]
+    #[arg(help_heading = OF_LIMITS)]
     pub share: usize,
+    /// Which client ids the holder of a certificate may use
+    #[arg(long, value_name = "FILE", requires = "authorities", help_heading = OF_TLS)]
+    pub clients: Option<PathBuf>,
+    #[command(flatten)]
+    pub common: Common,
 }
 
 /// Stands beside clients: sends each of their requests until it is answered
 #[derive(Debug, Args)]
 pub struct Retry {
-    #[command(flatten)]
-    pub common: Common,
     /// A guard; the first that can be reached is asked
     #[arg(long, value_name = "HOST:PORT", value_parser = address)]
     pub guard: Vec<String>,
     /// What its client ids begin with
     #[arg(long, value_name = "PREFIX", default_value = "retry")]
     pub name: String,
+    #[command(flatten)]
+    pub common: Common,
 }
 
 /// Prints a reference that leads to the same object by another address
@@ -107,6 +120,9 @@ pub struct Common {
     /// Where clients connect
     #[arg(long, value_name = "HOST:PORT", value_parser = address)]
     pub listen: Vec<String>,
+    /// Where clients find it, where that is elsewhere: forwards that lead there lead through it
+    #[arg(long, value_name = "HOST:PORT", value_parser = address)]
+    pub published: Vec<String>,
     /// Connections to each server or guard at most
     #[arg(long, value_name = "N", default_value = "4", value_parser = count)]
     pub connections: usize,
@@ -128,6 +144,15 @@ pub struct Common {
     pub tls: Tls,
 }
 
+impl Common {
+    /// How connections are opened by who listens so.
+    #[must_use]
+    pub fn terms(&self, unconfirmed: Duration, listeners: &[TcpListener]) -> Terms {
+        let (most, idle) = (self.connections, self.limits.idle);
+        Terms { tls: None, most, idle, unconfirmed, own: front::places_of(listeners) }
+    }
+}
+
 /// The form of the log.
 #[derive(Clone, Copy, Debug, PartialEq, Eq, ValueEnum)]
 pub enum Log {
@@ -137,21 +162,21 @@ pub enum Log {
 
 /// What peers may take.
 #[derive(Clone, Debug, Args)]
-#[command(next_help_heading = "Limits")]
+#[command(next_help_heading = OF_LIMITS)]
 pub struct Limits {
     /// Connections of clients at most
     #[arg(long, value_name = "N", default_value = "16384", value_parser = count)]
     pub peers: usize,
     /// Connections of clients from one address at most
-    #[arg(long, value_name = "N", default_value = "16384", value_parser = count)]
+    #[arg(long, value_name = "N", default_value = "12288", value_parser = count)]
     pub peers_per_address: usize,
-    /// The longest message
-    #[arg(long, value_name = "OCTETS", default_value = "16777216", value_parser = count)]
+    /// The longest message: 4096 to 16777216
+    #[arg(long, value_name = "OCTETS", default_value = "16777216", value_parser = length)]
     pub message: usize,
     /// What messages that have not arrived in whole may take, of one connection
     #[arg(long, value_name = "OCTETS", default_value = "33554432", value_parser = count)]
     pub partial: usize,
-    /// After how long without a request a connection is closed
+    /// After how long without a whole message a connection is closed, unless a request is under way
     #[arg(long, value_name = "SECONDS", default_value = "3600", value_parser = seconds)]
     pub idle: Duration,
     /// How long the handshake of TLS may take
@@ -165,7 +190,7 @@ pub struct Limits {
 /// TLS between retry and guard: guard shows its certificate to those who connect, retry its to the
 /// guard.
 #[derive(Clone, Debug, Args)]
-#[command(next_help_heading = "TLS between retry and guard")]
+#[command(next_help_heading = OF_TLS)]
 pub struct Tls {
     /// The certificate, with those that lead to its authority, as PEM
     #[arg(long, value_name = "FILE", requires = "key")]
@@ -184,6 +209,12 @@ fn count(word: &str) -> Result<usize, String> {
         Ok(0) | Err(_) => Err("is no count of at least 1".into()),
         Ok(count) => Ok(count),
     }
+}
+
+/// How many octets a message may have.
+fn length(word: &str) -> Result<usize, String> {
+    let length = word.parse().ok().filter(|length| (4096..=LONGEST).contains(length));
+    length.ok_or(format!("is not 4096 to {LONGEST}"))
 }
 
 /// A time in seconds, more than none.
@@ -363,28 +394,46 @@ fn parse(words: &[OsString]) -> Result<Words, String> {
 }
 
 impl Role {
-    /// What has to be said and is not.
+    /// What has to be said and is not, and what makes no sense.
     fn missing(&self) -> Vec<String> {
-        let (listen, servers, which) = match self {
-            Role::Guard(it) => (&it.common.listen, it.server.len() + it.reference.len(), "server"),
-            Role::Retry(it) => (&it.common.listen, it.guard.len(), "guard"),
+        let (common, which, servers, references) = match self {
+            Role::Guard(it) => (&it.common, "server", &it.server, it.reference.len()),
+            Role::Retry(it) => (&it.common, "guard", &it.guard, 0),
             Role::Ior(_) | Role::Check(_) => return Vec::new(),
         };
-        let missing = [(listen.len(), "listen"), (servers, which)];
-        let missing = missing.iter().filter(|(count, _)| *count == 0);
-        missing.map(|(_, name)| format!("{name}: nothing is said of it")).collect()
+        let (listen, tls) = (&common.listen, &common.tls);
+        let is_missing =
+            |is: bool, name: &str| is.then(|| format!("{name}: nothing is said of it"));
+        let is_open = which == "server" && tls.authorities.is_some() && tls.certificate.is_none();
+        let is_blind = which == "guard" && tls.certificate.is_some() && tls.authorities.is_none();
+        let itself = servers.iter().find(|server| listen.contains(server));
+        let faults = [
+            is_missing(listen.is_empty(), "listen"),
+            is_missing(servers.len() + references == 0, which),
+            is_open.then(|| "authorities: without a certificate there is no TLS".to_owned()),
+            is_blind.then(|| "certificate: without authorities there is no TLS".to_owned()),
+            itself.map(|server| format!("{which}: it listens itself at {server}")),
+        ];
+        faults.into_iter().flatten().collect()
     }
 
-    /// What is wrong in the files that the settings name.
+    /// What is wrong in the files that the settings name, and in the store's address.
     fn faults(&self) -> Vec<String> {
-        let (common, clients) = match self {
-            Role::Guard(it) => (&it.common, it.clients.as_deref()),
+        let (common, of_guard) = match self {
+            Role::Guard(it) => (&it.common, Some(it)),
             Role::Retry(it) => (&it.common, None),
             Role::Ior(_) | Role::Check(_) => return Vec::new(),
         };
         let mut faults: Vec<String> = tls::faults(&common.tls);
-        if let Some(Err(found)) = clients.map(access::Clients::read) {
-            faults.extend(found);
+        if let Some(guard) = of_guard {
+            let clients = guard.clients.as_deref().map(access::Clients::read);
+            faults.extend(clients.and_then(Result::err).unwrap_or_default());
+            // (one that is not there yet may be written once the server begins)
+            for file in guard.reference.iter().filter(|file| file.exists()) {
+                let why = reference::place_in(file).err();
+                faults.extend(why.map(|why| format!("{}: {why}", file.display())));
+            }
+            faults.extend(Store::fault(&guard.store));
         }
         faults
     }
@@ -470,6 +519,20 @@ mod tests {
         assert_eq!(missing, ["listen: nothing is said of it"]);
     }
 
+    /// In a file with this text these faults are found, each by its line and what it says.
+    fn finds(name: &str, text: &str, faults: &[&str]) {
+        let file = file(name, text);
+        let found = check(&file);
+        assert_eq!(found.len(), faults.len(), "{name}: {found:?}");
+        for (want, is) in faults.iter().zip(&found) {
+            let (line, why) = want.split_once('|').unwrap();
+            let place = format!("{}:{line}", file.display());
+            assert!(is.starts_with(&place) && is.contains(why), "{name}: {is:?}, {want:?}");
+            assert!(!is.contains('\n'), "{is:?}");
+        }
+        fs::remove_file(file).unwrap();
+    }
+
     #[test]
     fn each_fault_has_its_place() {
         const GOOD: &str = "[guard]\nlisten = 'a:1'\nserver = 'b:2'\n";
@@ -484,22 +547,25 @@ mod tests {
                 "timeout = 0\nmetrics = 'here'\nlog = 'loud'\n",
                 vec!["6|--log", "5|--metrics", "4|--timeout"],
             ),
+            ("length", "message = 4095\n", vec!["4|--message"]),
             ("alone", "key = 'k'\n", vec!["|--certificate"]),
+            (
+                "loop",
+                "[retry]\nlisten = 'c:1'\nguard = 'c:1'\n",
+                vec!["|[retry] guard: it listens itself at c:1"],
+            ),
+            ("store", "store = 'postgres://a b:c'\n", vec!["|[guard] store: "]),
+            ("folder", "store = '/nowhere/x'\n", vec!["|[guard] /nowhere/x: "]),
             ("role", "[gard]\n", vec!["4|[gard] is no role"]),
             ("other", "[retry]\nlisten = 'a:1'\n", vec!["|[retry] guard: nothing is said"]),
-            ("files", "authorities = '/nowhere/x'\n", vec!["|[guard] /nowhere/x: "]),
+            (
+                "files",
+                "authorities = '/nowhere/x'\n",
+                vec!["|[guard] authorities: without a certificate", "|[guard] /nowhere/x: "],
+            ),
             ("top", "[other.x]\ny = 1\n", vec!["4|[other] is no role"]),
         ] {
-            let file = file(name, &format!("{GOOD}{text}"));
-            let found = check(&file);
-            assert_eq!(found.len(), faults.len(), "{name}: {found:?}");
-            for (want, is) in faults.iter().zip(&found) {
-                let (line, why) = want.split_once('|').unwrap();
-                let place = format!("{}:{line}", file.display());
-                assert!(is.starts_with(&place) && is.contains(why), "{name}: {is:?}, {want:?}");
-                assert!(!is.contains('\n'), "{is:?}");
-            }
-            fs::remove_file(file).unwrap();
+            finds(name, &format!("{GOOD}{text}"), &faults);
         }
     }
 

@@ -1,6 +1,7 @@
 //! A guard that requests are sent to: whether it can be reached.
 
 use crate::pool::Pool;
+use crate::wire;
 use lemonrudder::{write, Order, Version};
 use std::io;
 use std::sync::Arc;
@@ -50,9 +51,9 @@ impl Upstream {
         self.is_up.subscribe()
     }
 
-    /// Whether it is the one at an address.
-    pub fn is_at(&self, host: &str, port: u16) -> bool {
-        [format!("{host}:{port}"), format!("[{host}]:{port}")].contains(&self.address)
+    /// Its host and its port.
+    pub fn place(&self) -> Vec<(String, u16)> {
+        wire::all_parts(std::slice::from_ref(&self.address))
     }
 
     /// It can't be reached: nobody uses it until it answers again.

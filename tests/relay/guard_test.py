@@ -35,18 +35,18 @@ CUT, GOODBYE, QUIET = object(), object(), object()
 class Server:
     """A server that performs each request that comes, many at once, and remembers it.
 
-    `answer` gives what is answered: octets, or what it does in place of that. It returns the count of what it performed
-    where it is None.
+    `answer` gives what is answered: octets, or what it does in place of that, or octets and whether it closes the
+    connection behind them. It returns the count of what it performed where it is None.
     """
 
-    def __init__(self) -> None:
+    def __init__(self, port: int = 0) -> None:
         self.answer: Callable[[Message], object] | None = None
         self.performed: list[Message] = []
         self.cancelled: list[int] = []
         self.connections = 0
         self.lock = threading.Lock()
         self.peers: list[socket.socket] = []
-        self.listener = socket.create_server(("127.0.0.1", 0))
+        self.listener = socket.create_server(("127.0.0.1", port))
         self.port = self.listener.getsockname()[1]
         threading.Thread(target=self.accept, daemon=True).start()
 
@@ -88,12 +88,13 @@ class Server:
         if said is None:
             said = giop.reply(came.request_id, number_body(count), order=came.order, minor=came.minor)
         with contextlib.suppress(OSError), self.lock:
-            if said is GOODBYE:
+            last, is_cut = said if isinstance(said, tuple) else (said, said is GOODBYE or said is CUT)
+            if last is GOODBYE:
                 peer.sendall(giop.CLOSE_CONNECTION)
-            if said is GOODBYE or said is CUT:
+            elif isinstance(last, bytes) and came.wish != NONE:
+                peer.sendall(last)
+            if is_cut:
                 peer.shutdown(socket.SHUT_RDWR)
-            elif said is not QUIET and came.wish != NONE:
-                peer.sendall(said)
 
     def once(self, *answers: object) -> None:
         """What is done with the next requests; those behind them are answered."""
@@ -109,6 +110,13 @@ def guarded(*words: str, dies_at: str = "", store: str = "memory") -> Iterator[t
         with Relay("guard", "--store", store, *server_words, *words) as guard:
             guard.begin(dies_at)
             yield server, guard
+
+
+def asks(port: int) -> bool:
+    """Whether a request is answered by results."""
+    with Peer(port) as peer:
+        peer.tell(request(1, KEY, "add"))
+        return peer.message().status == giop.NO_EXCEPTION
 
 
 def system(request_id: int, name: str, completed: int, minor_code: int = 0, minor: int = 2) -> bytes:
@@ -166,23 +174,50 @@ class Forwarding(unittest.TestCase):
             want(told, [sorted([SETS[0], OTHER])] * 3 + [sorted([SETS[1], OTHER])] * 2)
             want(server.connections, 2)
 
+    def test_many_code_sets(self):
+        """Where there are connections for as many as there may be, those that nobody uses end for others."""
+        with guarded() as (server, guard), Peer(guard.port) as busy:
+            may_go_on = threading.Event()
+            server.answer = lambda came: came.operation == b"slow" and may_go_on.wait(relays.SECONDS) and None or None
+            busy.tell(giop.request(1, KEY, "slow", contexts=[(CODE_SETS, b"\0\0\0\0")]))
+            until(lambda: server.performed, "it comes")
+            for number in range(70):
+                with Peer(guard.port) as peer:
+                    peer.tell(giop.request(1, KEY, "any", contexts=[(CODE_SETS, number.to_bytes(8, "big"))]))
+                    want(peer.message().status, giop.NO_EXCEPTION)
+            may_go_on.set()
+            want(busy.message().status, giop.NO_EXCEPTION)
+            want(server.connections, 71)
+            until(lambda: guard.said().count("others had to be opened") == 7, "those that were idle end")
+
     def test_contexts_of_replies_go_back(self):
-        """With the first reply; a repeat has none. A reply of 1.0 whose body stands elsewhere can't be kept."""
+        """With the first reply; a repeat has none."""
         with guarded() as (server, guard):
             server.once(giop.reply(1, b"abc", contexts=[OTHER]))
             ask(guard.port, request(4, KEY, "any", number=1), giop.reply(4, b"abc", contexts=[OTHER]))
             ask(guard.port, request(5, KEY, "any", number=1), giop.reply(5, b"abc"))
-            elsewhere = [(99, b"1234")]
-            for number, size in ((None, 9), (2, 9), (3, 4)):
-                server.answer = lambda came, size=size: giop.reply(came.request_id, bytes(size), minor=0,
-                                                                   contexts=elsewhere)
-                answer = system(4, "IMP_LIMIT", YES, minor=0) if number == 2 else None
+
+    @base.each(lambda: [(f"1.{minor} {order} {place}", (minor, order, place))
+                        for minor in (0, 1) for order in (BIG, LITTLE) for place in (0, 4)])
+    def test_bodies_of_replies_stand_at_their_places(self, given: tuple) -> None:
+        """Those of 1.0 and 1.1, also of repeats, and of repeats after a restart. A repeat in 1.2, where such a body can
+        not stand, is IMP_LIMIT, COMPLETED_YES."""
+        minor, order, place = given
+        body = bytes(range(1, 10))
+        with tempfile.TemporaryDirectory() as folder, guarded(store=os.path.join(folder, "kept")) as (server, guard):
+            server.answer = lambda came: giop.reply(came.request_id, body, minor=minor, order=order,
+                                                    contexts=[(99, bytes(place))])
+            for number, life in ((None, 1), (1, 1), (1, 1), (1, 2)):
+                if life == 2:
+                    guard.end(signal.SIGKILL)
+                    guard.begin()
                 with Peer(guard.port) as peer:
-                    peer.tell(request(4, KEY, "any", number=number, minor=0))
+                    peer.tell(request(4, KEY, "any", number=number, minor=minor, order=order))
                     came = peer.message()
-                    want((came.status, came.body), (giop.read(answer).status, giop.read(answer).body) if answer
-                         else (giop.NO_EXCEPTION, bytes(size)))
-                    want(came.place % 8, 0 if answer else 4)
+                    want((came.status, came.order, came.body, came.place % 8), (giop.NO_EXCEPTION, order, body, place))
+            want(len(server.performed), 2)
+            elsewhere = giop.reply(4, body, order=order) if place == 0 else system(4, "IMP_LIMIT", YES)
+            ask(guard.port, request(4, KEY, "any", number=1), elsewhere)
 
     def test_many_are_under_way_at_once(self):
         """64 requests of one connection, each of which the server answers once all have come."""
@@ -224,6 +259,29 @@ class Forwarding(unittest.TestCase):
                 peer.tell(request(3, KEY, "any", number=1, minor=minor))
                 peer.wants(system(3, "IMP_LIMIT", YES, minor=minor))
             want((len(server.performed), server.connections), (1, 1))
+
+    @base.each(lambda: [(f"1.{minor}", minor) for minor in (1, 2)])
+    def test_what_is_too_long_in_fragments(self, minor: int) -> None:
+        """The same, and nobody else notices: others of the same connections are answered."""
+        def in_fragments(octets: bytes) -> bytes:
+            size = 1 << 20
+            return b"".join(giop.cut(octets, [size - (4 if minor == 2 else 0)] + [size] * (len(octets) // size)))
+
+        with guarded("--connections", "1") as (server, guard), Peer(guard.port) as peer:
+            may_go_on = threading.Event()
+            server.answer = lambda came: may_go_on.wait(relays.SECONDS) and None
+            peer.tell(request(9, KEY, "slow", number=9))
+            until(lambda: server.performed, "it comes")
+            octets = bytes(17 << 20)
+            peer.tell(in_fragments(request(1, KEY, "any", octets, minor=minor)))
+            peer.wants(system(1, "IMP_LIMIT", NO, minor=minor))
+            server.answer = lambda came: in_fragments(giop.reply(came.request_id, octets, minor=minor))
+            for _ in range(2):
+                peer.tell(request(3, KEY, "any", number=1, minor=minor))
+                peer.wants(system(3, "IMP_LIMIT", YES, minor=minor))
+            may_go_on.set()
+            peer.wants(giop.reply(9, number_body(1)))
+            want((len(server.performed), server.connections), (2, 1))
 
     def test_one_way(self):
         """A request that wishes no reply, and one that wishes one without results; each acts once."""
@@ -277,9 +335,36 @@ class Forwarding(unittest.TestCase):
             server.answer = forward(1)
             for request_id in (1, 2):
                 ask(guard.port, request(request_id, KEY, "any", number=1), system(request_id, "IMP_LIMIT", NO))
+            self.assertIn("it forwards to 127.0.0.1:1, which is not guarded", guard.said())
             server.answer = lambda came: giop.reply(came.request_id, b"\0\0", status=5)
             ask(guard.port, request(1, KEY, "any", number=2), system(1, "IMP_LIMIT", NO))
             want(len(server.performed), 6)
+
+    def test_forwards_lead_to_where_clients_find_it(self):
+        """To --published, where that is said, and where the server's references lead there or to the file's; also where
+        the guard listens at all addresses."""
+        def forward(host: bytes, port: int) -> bytes:
+            return giop.reply(1, lambda out: put_reference(out, Reference(b"IDL:A:1.0", 2, host, port, b"o")),
+                              status=giop.LOCATION_FORWARD)
+
+        with tempfile.TemporaryDirectory() as folder, Server() as server:
+            file, port = os.path.join(folder, "reference"), relays.free_port()
+            with open(file, "w", encoding="ascii") as to:
+                to.write(Reference(b"IDL:A:1.0", 2, b"127.0.0.1", server.port, KEY).text())
+            for at_all, words, leads in (("0.0.0.0", ["--published", "relay:2809"], (b"relay", 2809)),
+                                         ("0.0.0.0", [], (b"127.0.0.1", port)), ("[::]", [], (b"127.0.0.1", port))):
+                with relays.Life(relays.program(), "guard", "--listen", f"{at_all}:{port}", "--store", "memory",
+                                 "--reference", file, *words) as guard:
+                    guard.begin()
+                    for at in (leads, (b"127.0.0.1", server.port), (b"127.0.0.1", port)):
+                        server.answer = lambda came, at=at: renumbered(forward(*at), came)
+                        ask(port, request(1, KEY, "any"), forward(*leads))
+                    guard.end(signal.SIGTERM)
+
+
+def renumbered(octets: bytes, came: Message) -> bytes:
+    """A reply of 1.2 in big order, to a request that came."""
+    return octets[:12] + came.request_id.to_bytes(4, "big") + octets[16:]
 
 
 def put_reference(out: Octets, reference: Reference) -> None:
@@ -322,7 +407,7 @@ class Once(unittest.TestCase):
         wrong = giop.reply(1, lambda out: out.string("IDL:Wrong:1.0"), status=giop.USER_EXCEPTION)
         with guarded() as (server, guard):
             for number, said in enumerate((wrong, system(1, "TRANSIENT", NO), system(1, "NO_PERMISSION", YES))):
-                server.answer = lambda came, said=said: said[:12] + came.request_id.to_bytes(4, "big") + said[16:]
+                server.answer = lambda came, said=said: renumbered(said, came)
                 for _ in range(2):
                     ask(guard.port, request(1, KEY, "add", number=number), said)
             want(len(server.performed), 3)
@@ -490,6 +575,21 @@ class Ends(unittest.TestCase):
             other.tell(request(1, KEY, "add"))
             other.wants(giop.reply(1, number_body(1)))
             until(lambda: guard.said().count("connection ended") == 5, "four ends are said, and that of who looked")
+
+    def test_a_server_that_is_away_is_asked_seldom(self):
+        """However often clients ask: with pauses that grow; and once it is there they are answered."""
+        port = relays.free_port()
+        with guarded("--server", f"127.0.0.1:{port}") as (_, guard), Peer(guard.port) as peer:
+            end, count = time.monotonic() + 3, 0
+            while time.monotonic() < end:
+                peer.tell(request(1, KEY, "add"))
+                peer.wants(system(1, "TRANSIENT", NO, DECLINED))
+                count += 1
+            attempts = guard.said().count("not connected")
+            self.assertTrue(3 <= attempts <= 9, f"{attempts} attempts for {count} requests")
+            with Server(port) as back:
+                until(lambda: asks(guard.port), "it is answered")
+                want(len(back.performed), 1)
 
     def test_a_reference_is_read_again(self):
         """A server that is begun at another port is found by its reference."""

@@ -1,15 +1,21 @@
-"""Peers of a relay that mean no good: nobody else notices them."""
+"""Peers of a relay that mean no good: what they send is counted and said with its reason, and nobody else notices."""
 from __future__ import annotations
 
 import contextlib
 import random
 import signal
 import socket
+import struct
+import time
 import unittest
+from collections.abc import Iterator
 
 from tests import base, giop
-from tests.giop_peers import Behind, Peer, number_body, request
+from tests.giop import BIG, LITTLE, MAYBE, MORE
+from tests.giop_peers import Peer, ask, number_body, request, until, want
 from tests.relay import relays
+from tests.relay.guard_test import Server, system
+from tests.relay.operation_test import Counters
 from tests.relay.relays import Relay
 
 # how many connections a flood has
@@ -37,6 +43,55 @@ def octets_of(kind: str, dice: random.Random) -> bytes:
 KINDS = ("no GIOP", "a changed octet", "a part", "too long", "many contexts", "a reply")
 
 
+def begun(request_id: int, *, minor: int = 2, order: str = BIG) -> bytes:
+    """The first frame of a Request that more follow of."""
+    octets = bytearray(giop.request(request_id, b"k", "any", bytes(64), minor=minor, order=order))
+    octets[6] |= MORE
+    return bytes(octets)
+
+
+def rest(request_id: int, *, minor: int = 2, order: str = BIG, is_last: bool = True) -> bytes:
+    """A Fragment of it."""
+    content = struct.pack(order + "I", request_id) if minor == 2 else b""
+    return giop.message(giop.FRAGMENT, content + bytes(8), minor=minor, order=order, flags=0 if is_last else MORE)
+
+
+# why a connection ends, by what came on it
+ENDS = {
+    "what came is no GIOP": b"GET / HTTP/1.1\r\n\r\n",
+    "a version of GIOP that is not known": b"GIOP\1\3\0\0" + bytes(4),
+    "flags or a type that the version of GIOP lacks": b"GIOP\1\2\0\x09" + bytes(4),
+    "a fragment of no message": rest(9),
+    "too many messages are partial": b"".join(begun(index) for index in range(17)),
+    "a message amid the fragments of another": begun(1, minor=1) + giop.request(2, b"k", "add", minor=1),
+    "fragments of different orders": begun(1) + rest(1, order=LITTLE),
+    "a message is too long": giop.MAGIC + bytes([1, 2, 0, giop.LOCATE]) + b"\x7f\xff\xff\xff",
+    "a message that does not read": giop.message(giop.REQUEST, b"\0\0\0\1\3\0\0\0\0\0\0\0\xff\xff\xff\xff"),
+}
+OF_CLIENTS = {
+    **ENDS,
+    "the peer sent what only a server sends": giop.reply(1),
+    "the peer said MessageError": giop.MESSAGE_ERROR,
+    "the peer said CloseConnection": giop.CLOSE_CONNECTION,
+    "the peer closed it": request(1, b"k", "add")[:20],
+}
+OF_SERVERS = {
+    **ENDS,
+    "it sent what only a client sends": request(1, b"k", "add"),
+    "it said MessageError": giop.MESSAGE_ERROR,
+    "it was closed without a goodbye": giop.reply(1)[:20],
+}
+# why a request is refused, by its octets, and what its client is told
+WRONG_FT = (giop.FT_REQUEST, b"\0\0\0\0\0\0\0\x09A")
+REFUSED = {
+    "it has too many service contexts": (giop.request(1, b"k", "add", contexts=[(99, b"")] * 5000), "IMP_LIMIT"),
+    "its FT_REQUEST is not valid": (giop.request(1, b"k", "add", contexts=[WRONG_FT]), "BAD_CONTEXT"),
+    "it is too long": (giop.request(1, b"k", "add", bytes(16 << 20)), "IMP_LIMIT"),
+    "its target is no object key": (giop.request(1, (giop.BY_PROFILE, (0, b"\0\1\2\0")), "add"), None),
+}
+ROLES = ("guard", "retry")
+
+
 class Hostile(unittest.TestCase):
     """Before both roles."""
 
@@ -48,11 +103,10 @@ class Hostile(unittest.TestCase):
     def relay(self, role):
         """A relay in a role, and a server behind it that performs what it is asked."""
         with contextlib.ExitStack() as stack:
-            behind = stack.enter_context(Behind())
-            words = ["--guard", f"127.0.0.1:{behind.port}", "--connections", "1"]
-            if role == "guard":
-                words = ["--server", f"127.0.0.1:{behind.port}", "--store", "memory", "--connections", "1"]
-            relay = stack.enter_context(Relay(role, *words))
+            server, self.counters = stack.enter_context(Server()), Counters()
+            words = ["--server", f"127.0.0.1:{server.port}", "--store", "memory"] if role == "guard" else [
+                "--guard", f"127.0.0.1:{server.port}"]
+            relay = stack.enter_context(Relay(role, *words, "--connections", "1", *self.counters.words))
             relay.begin()
             yield relay
 
@@ -71,6 +125,96 @@ class Hostile(unittest.TestCase):
                     peer.sendall(octets_of(given[1], dice))
             self.is_served(relay)
             self.assertEqual(relay.end(signal.SIGTERM), 0)
+
+    @base.each(lambda: [(role, role) for role in ROLES])
+    def test_each_end_has_its_reason(self, role):
+        """Of a connection of a client: it is counted, and a line of the log has it."""
+        with self.relay(role) as relay, Peer(relay.port) as other:
+            for why, octets in OF_CLIENTS.items():
+                with self.subTest(why), self.grows(relay, f"connections_ended_total {why}", why):
+                    with Peer(relay.port) as peer, contextlib.suppress(OSError):
+                        peer.tell(octets)
+                        if why == "the peer closed it":
+                            peer.finish()
+                        self.assertIn(peer.received(99), (b"", giop.MESSAGE_ERROR))
+            other.tell(request(5, b"k", "add"))
+            self.assertEqual(other.message().status, giop.NO_EXCEPTION)
+
+    @contextlib.contextmanager
+    def grows(self, relay, label: str, why: str) -> Iterator[None]:
+        """What is done meanwhile is counted, and said in the log."""
+        before, lines = self.counters.of(label), relay.said().count(f'why="{why}"')
+        yield
+        until(lambda: self.counters.of(label) > before, f"{label} is counted: {self.counters.all()}")
+        until(lambda: relay.said().count(f'why="{why}"') > lines, f"{why} is said: {relay.said()}")
+
+    @base.each(lambda: [(role, role) for role in ROLES])
+    def test_each_refusal_has_its_reason(self, role):
+        """It is counted, and said once for each connection; the connection goes on, and the server gets nothing."""
+        with self.relay(role) as relay:
+            for why, (octets, name) in REFUSED.items():
+                with self.subTest(why), self.grows(relay, f"refused_total {why}", why), Peer(relay.port) as peer:
+                    lines = relay.said().count(f'why="{why}"')
+                    by_key = giop.reply(1, b"\0\0", status=5)
+                    for _ in range(3):
+                        peer.tell(octets)
+                        peer.wants(by_key if name is None else system(1, name, giop.NO))
+                    peer.tell(request(5, b"k", "add"))
+                    self.assertEqual(peer.message().status, giop.NO_EXCEPTION)
+                    self.assertEqual(relay.said().count(f'why="{why}"'), lines + 1)
+
+    def test_servers_that_make_no_sense(self):
+        """Before the guard: who waits is told MAYBE, the connection ends with its reason, and others are served."""
+        counters = Counters()
+        with Server() as server, Relay("guard", "--server", f"127.0.0.1:{server.port}", "--store", "memory",
+                                       "--timeout", "2", *counters.words) as guard:
+            guard.begin()
+            for number, (why, octets) in enumerate(OF_SERVERS.items()):
+                with self.subTest(why):
+                    before = counters.of(f"server_connections_ended_total {why}")
+                    server.once((octets, "goodbye" in why))
+                    ask(guard.port, request(1, b"k", "add", number=number), system(1, "COMM_FAILURE", MAYBE))
+                    until(lambda: counters.of(f"server_connections_ended_total {why}") > before, counters.all())
+                    self.assertIn(f'why="{why}"', guard.said())
+                    ask(guard.port, request(2, b"k", "add"), giop.reply(2, number_body(len(server.performed) + 1)))
+            # a reply to nobody, and a forward that is none: the connection goes on
+            connections = server.connections
+            server.once(giop.reply(77, number_body(1)))
+            ask(guard.port, request(1, b"k", "add"), system(1, "TIMEOUT", MAYBE))
+            self.assertEqual(counters.of("late_total"), 1)
+            server.answer = lambda came: giop.reply(came.request_id, b"\xff" * 9, status=giop.LOCATION_FORWARD)
+            ask(guard.port, request(1, b"k", "add"), system(1, "IMP_LIMIT", giop.NO))
+            self.assertEqual(server.connections, connections)
+
+    def test_guards_that_make_no_sense(self):
+        """Before `retry`: each request is sent again, until a guard answers it."""
+        counters = Counters()
+        with Server() as server, Relay("retry", "--guard", f"127.0.0.1:{server.port}", "--timeout", "20",
+                                       *counters.words) as retry:
+            retry.begin()
+            for why, octets in OF_SERVERS.items():
+                with self.subTest(why):
+                    server.once((octets, "goodbye" in why))
+                    before = counters.of(f"server_connections_ended_total {why}")
+                    ask(retry.port, request(1, b"k", "add"), giop.reply(1, number_body(len(server.performed) + 2)))
+                    self.assertEqual(counters.of(f"server_connections_ended_total {why}"), before + 1)
+                    self.assertIn(f'why="{why}"', retry.said())
+
+    def test_a_flood_of_client_ids(self):
+        """Each has its share of what is under way; who comes behind them is served once one is answered."""
+        with Server() as server, Relay("guard", "--server", f"127.0.0.1:{server.port}", "--store", "memory",
+                                       "--share", "1") as guard, contextlib.ExitStack() as stack:
+            guard.begin()
+            flood = [stack.enter_context(Peer(guard.port)) for _ in range(20)]
+            for index, peer in enumerate(flood):
+                peer.tell(b"".join(request(number, b"k", "add", number=number, client=f"{index}.{number}")
+                                   for number in range(200)))
+            begun_at = time.monotonic()
+            ask(guard.port, request(1, b"k", "mine", number=1, client=b"mine"),
+                giop.reply(1, number_body(0))[:12])
+            self.assertLess(time.monotonic() - begun_at, 10)
+            until(lambda: len(server.performed) == 4001, "all are performed")
+            want(len({came.operation for came in server.performed}), 2)
 
     @base.each(lambda: [("guard", "guard"), ("retry", "retry")])
     def test_silent_and_slow_peers(self, role):

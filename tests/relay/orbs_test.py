@@ -8,14 +8,19 @@ from __future__ import annotations
 
 import os
 import random
+import re
 import signal
+import subprocess
+import tempfile
 import time
 import unittest
 
 from tests import base
+from tests.programs import ROOT, needs
 from tests.relay import relays
 from tests.relay.relays import Calling, judge, results_differ, world
 
+EXAMPLES = os.path.join(ROOT, "examples")
 # where each role is killed, and how often MAYBE is told then to a client that makes one call after another
 GUARD_POINTS = {"before-begin": 0, "begun": 1, "sent": 1, "received": 1, "finished": 0, "answered": 0}
 RETRY_POINTS = {"asked": 1, "sent": 1, "completed": 1}
@@ -31,6 +36,11 @@ def ended_by_itself(calling: Calling, life: relays.Life) -> bool:
     while not life.died() and not calling.is_over():
         time.sleep(0.002)
     return life.died()
+
+
+def run_of(*words: str) -> str:
+    """What a program prints that is to succeed."""
+    return subprocess.run(words, stdout=subprocess.PIPE, text=True, timeout=relays.SECONDS, check=True).stdout
 
 
 class Orbs(unittest.TestCase):
@@ -55,6 +65,30 @@ class Orbs(unittest.TestCase):
             self.assertEqual(set(made.server.performed().values()), {1})
             self.assertEqual(sum(token.startswith("tell.") for token in made.server.performed()), 20)
 
+    def test_a_client_that_sends_ft_request(self):
+        """A call that is sent again in another process acts twice on omniORB, and once through a guard alone, by a
+        reference that leads to that; in GIOP 1.1 as well."""
+        folder = relays.compiled(os.path.join(EXAMPLES, "counter.idl"),
+                                 server=os.path.join(relays.HERE, "counter_server.cc"),
+                                 client=os.path.join(EXAMPLES, "omniorb_client.cc"))
+
+        def calls(reference: str, number: int, *words: str) -> str:
+            """What a client prints that calls add(7) and then get()."""
+            return run_of(os.path.join(folder, "client"), reference, "A", str(number), "-ORBmaxGIOPConnectionPerServer", "1",
+                          *words)
+
+        port = relays.free_port()
+        with relays.Life(os.path.join(folder, "server"), "-ORBendPoint", f"giop:tcp:127.0.0.1:{port}") as server, \
+                relays.Relay("guard", "--server", f"127.0.0.1:{port}", "--store", "memory") as guard:
+            server.begin()
+            guard.begin()
+            direct = server.process.stdout.readline().strip()
+            self.assertEqual([calls(direct, 1) for _ in range(2)], ["add 7\nget 7\n", "add 14\nget 14\n"])
+            led = run_of(relays.program(), "ior", "--at", f"127.0.0.1:{guard.port}", direct).strip()
+            self.assertEqual([calls(led, 1) for _ in range(3)], ["add 21\nget 21\n"] * 3)
+            self.assertEqual([calls(led, 2) for _ in range(2)], ["add 28\nget 28\n"] * 2)
+            self.assertEqual([calls(led, 3, "-ORBmaxGIOPVersion", "1.1") for _ in range(2)], ["add 35\nget 35\n"] * 2)
+
     def test_one_that_is_slow_holds_up_nobody(self):
         """32 calls of a second each, at once, take as long as a few: omniORB's server has threads enough."""
         with world(random.Random(1)) as made:
@@ -70,6 +104,7 @@ class Orbs(unittest.TestCase):
             answers = made.calls("call", CALLS, THREADS).answers()
             told = made.calls("told", CALLS // 4, THREADS, "tell").answers()
             made.link.is_calm = True
+            made.arrive(CALLS + CALLS // 4)
             made.settle()
             performed = made.server.performed()
             self.assertEqual(judge({**answers, **told}, performed), {"returned": CALLS + CALLS // 4})
@@ -147,6 +182,40 @@ class Orbs(unittest.TestCase):
                 made.settle()
                 told = judge(answers, made.server.performed())
                 self.assertGreater(told["returned"], 8, told)
+
+
+class Page(unittest.TestCase):
+    """What docs/RELAY.md has its reader do."""
+
+    @needs("unshare", "ip", "g++", "omniidl")
+    def test_in_ten_minutes(self):
+        """Its commands, once all is built, print what it says; at the ports that it names, so in a network of their own."""
+        relays.needs_network()
+        relays.orbs()
+        with open(os.path.join(ROOT, "docs", "RELAY.md"), encoding="utf-8") as file:
+            part = file.read().split("\n## In ten minutes\n")[1].split("\n## ")[0]
+        lines = [line[4:] for line in part.split("\n") if line.startswith("    ")]
+        printed = [line for line in lines if re.match(r"first\.\d|COMM_FAILURE ", line)]
+        # (who types is slower)
+        commands = [f"sleep 2; {line}" if line.startswith("./orb_client") else line for line in lines if line not in printed]
+        self.assertEqual([line.split()[0] for line in commands[:2]], ["./build", "export"])
+        with tempfile.TemporaryDirectory() as folder:
+            os.symlink(os.path.join(ROOT, "tests"), os.path.join(folder, "tests"))
+            os.symlink(relays.program(), os.path.join(folder, "lemonrudder"))
+            script = "\n".join(["ip link set lo up", 'PATH="$PWD:$PATH"', *commands[2:], "kill $(jobs -p)"])
+            ran = subprocess.run(["unshare", "-n", "bash", "-c", script], cwd=folder, text=True, stdout=subprocess.PIPE,
+                                 stderr=subprocess.PIPE, timeout=2 * relays.SECONDS, check=False)
+            self.assertEqual([line for line in ran.stderr.splitlines() if " Killed " not in line], [])
+            said = ran.stdout.splitlines()
+            # (two threads call: which result each gets is chance)
+            for part in (0, 1, 2):
+                self.assertEqual(sorted(line.split()[part] for line in said[:4]),
+                                 [line.split()[part] for line in printed[:4]])
+            # (how many the server has when the guard dies is chance)
+            self.assertEqual(set(said[4:]) | {printed[4]}, set(printed[4:]), said)
+            self.assertLessEqual(len(said[4:]), 4)
+            with open(os.path.join(folder, "answers"), encoding="ascii") as answers:
+                self.assertEqual(len(answers.readlines()), 200)
 
 
 if __name__ == "__main__":

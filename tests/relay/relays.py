@@ -2,9 +2,11 @@
 from __future__ import annotations
 
 import asyncio
+import atexit
 import collections
 import contextlib
 import functools
+import glob
 import os
 import random
 import re
@@ -48,13 +50,21 @@ def program() -> str:
 @functools.lru_cache(maxsize=None)
 def orbs() -> str:
     """The folder of a client and a server of omniORB."""
+    return compiled(os.path.join(HERE, "calls.idl"), server=os.path.join(HERE, "orb_server.cc"),
+                    client=os.path.join(HERE, "orb_client.cc"))
+
+
+def compiled(idl: str, **sources: str) -> str:
+    """A folder of programs of omniORB over stubs of an interface."""
     if not os.path.exists("/usr/include/omniORB4/CORBA.h"):
         raise unittest.SkipTest(NEEDS + "libomniorb4-dev")
     folder = tempfile.mkdtemp(prefix="orbs-")
-    commands = [[tool("omniidl"), "-bcxx", os.path.join(HERE, "calls.idl")]]
-    for name in ("server", "client"):
-        commands.append([tool("g++"), "-std=c++17", "-O0", "-I.", "-o", name, os.path.join(HERE, f"orb_{name}.cc"),
-                         "callsSK.cc", "-lomniORB4", "-lomnithread", "-pthread"])
+    atexit.register(shutil.rmtree, folder, ignore_errors=True)
+    stubs = os.path.basename(idl).replace(".idl", "SK.cc")
+    commands = [[tool("omniidl"), "-bcxx", idl]]
+    for name, source in sources.items():
+        commands.append([tool("g++"), "-std=c++17", "-O0", "-I.", "-o", name, source, stubs, "-lomniORB4", "-lomnithread",
+                         "-pthread"])
     for words in commands:
         ran = subprocess.run(words, cwd=folder, capture_output=True, text=True, check=False)
         if ran.returncode != 0:
@@ -62,8 +72,21 @@ def orbs() -> str:
     return folder
 
 
+def needs_network() -> None:
+    """Skips a test where a network namespace of its own can't be made."""
+    if subprocess.run(["unshare", "-n", "true"], capture_output=True, check=False).returncode != 0:
+        raise unittest.SkipTest(NEEDS + "a network namespace of its own")
+
+
 def free_port() -> int:
     return giop_peers.free_port()
+
+
+def stats_of(process: int) -> Iterator[str]:
+    """What the system says of each thread of a process."""
+    for stat in glob.glob(f"/proc/{process}/task/*/stat"):
+        with contextlib.suppress(OSError), open(stat, encoding="ascii", errors="replace") as file:
+            yield file.read()
 
 
 class Life:
@@ -74,9 +97,9 @@ class Life:
         self.process: subprocess.Popen | None = None
         self.log = tempfile.TemporaryFile("w+")
 
-    def begin(self, dies_at: str = "") -> None:
-        """Begins a life, which ends by itself at a point where one is named."""
-        env = {**os.environ, "LEMONRUDDER_KILL": dies_at}
+    def begin(self, dies_at: str = "", stops_at: str = "") -> None:
+        """Begins a life, which ends or stops by itself at a point where one is named."""
+        env = {**os.environ, "LEMONRUDDER_KILL": dies_at, "LEMONRUDDER_STOP": stops_at}
         self.process = subprocess.Popen(self.words, stdin=subprocess.DEVNULL, stdout=subprocess.PIPE, stderr=self.log,
                                         text=True, env=env)
 
@@ -95,6 +118,10 @@ class Life:
     def died(self) -> bool:
         """Whether the life has ended by itself."""
         return self.process is not None and self.process.poll() is not None
+
+    def is_stopped(self) -> bool:
+        """Whether all of its threads are stopped, as by SIGSTOP."""
+        return all(text.rpartition(")")[2].split()[0] == "T" for text in stats_of(self.process.pid))
 
     def said(self) -> str:
         """What it has said of itself, in all its lives."""
@@ -120,8 +147,8 @@ class Relay(Life):
         self.port = port or free_port()
         super().__init__(program(), role, "--listen", f"127.0.0.1:{self.port}", *words)
 
-    def begin(self, dies_at: str = "") -> None:
-        super().begin(dies_at)
+    def begin(self, dies_at: str = "", stops_at: str = "") -> None:
+        super().begin(dies_at, stops_at)
         end = time.monotonic() + SECONDS
         while not self.died():
             with contextlib.suppress(ConnectionRefusedError), socket.create_connection(("127.0.0.1", self.port)):
@@ -141,8 +168,8 @@ class Server(Life):
         ends += ["-ORBendPointPublish", f"giop:tcp:127.0.0.1:{published}"]
         super().__init__(os.path.join(orbs(), "server"), self.file, *ends, *LONG)
 
-    def begin(self, dies_at: str = "") -> None:
-        super().begin(dies_at)
+    def begin(self, dies_at: str = "", stops_at: str = "") -> None:
+        super().begin(dies_at, stops_at)
         self.reference = self.process.stdout.readline().strip()
         if not self.reference.startswith("IOR:"):
             raise AssertionError(f"the server did not begin: {self.said()}")
@@ -224,7 +251,8 @@ class Link:
         except OSError:
             writer.transport.abort()
             return
-        left = [1 << 60 if self.is_calm or self.dice.random() < 0.1 else self.dice.randrange(6_000)]
+        most = 60_000 if self.dice.random() < 0.1 else 6_000
+        left = [1 << 60 if self.is_calm else self.dice.randrange(most)]
         ways = [asyncio.ensure_future(self.hand_on(*way, left)) for way in ((reader, onward), (there, writer))]
         try:
             await asyncio.wait(ways, return_when=asyncio.FIRST_COMPLETED)
@@ -283,6 +311,14 @@ class World:
 
     def calls(self, name: str, count: int, threads: int = 1, kind: str = "0") -> Calling:
         return Calling(self.server.reference, name, count, threads, kind)
+
+    def arrive(self, count: int) -> None:
+        """Waits until so many calls were performed: who calls one way may be gone before."""
+        end = time.monotonic() + 20 * SECONDS
+        while len(self.server.performed()) < count:
+            if end < time.monotonic():
+                raise AssertionError(f"{len(self.server.performed())} calls of {count} were performed")
+            time.sleep(0.2)
 
     def settle(self) -> None:
         """Has both relays end what is under way."""

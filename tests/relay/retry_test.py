@@ -5,6 +5,8 @@ import contextlib
 import signal
 import socket
 import struct
+import subprocess
+import sys
 import threading
 import time
 import unittest
@@ -14,6 +16,7 @@ from tests import base, giop
 from tests.cdr import Octets
 from tests.giop import BIG, CODE_SETS, FT_REQUEST, LITTLE, MAYBE, NO, Message
 from tests.giop_peers import Peer, number_body, request, until, want
+from tests.programs import ROOT, needs
 from tests.relay import relays
 from tests.relay.relays import Relay
 
@@ -110,9 +113,10 @@ def reference_body(reference: giop.Reference) -> Callable[[Octets], None]:
     return put
 
 
-def retry(*guards: Guard, timeout: float = 20, name: str = "retry") -> Relay:
+def retry(*guards: Guard, timeout: float = 20, name: str = "retry", published: str = "") -> Relay:
     """A relay before guards."""
     words = [word for guard in guards for word in ("--guard", f"127.0.0.1:{guard.port}")]
+    words += ["--published", published] if published else []
     return Relay("retry", *words, "--timeout", str(timeout), "--name", name)
 
 
@@ -248,8 +252,18 @@ class Retry(unittest.TestCase):
             relay.begin()
             self.asked(relay, request(5, b"k", "add"), giop.reply(5, number_body(2)))
 
+    @needs("unshare", "ip")
+    def test_connections_that_vanish(self):
+        """What is sent on one whose octets arrive nowhere any more is sent again on another, long before its time is
+        over."""
+        relays.needs_network()
+        ran = subprocess.run(["unshare", "-n", sys.executable, "-m", "tests.relay.vanishing"], cwd=ROOT, text=True,
+                             stdout=subprocess.PIPE, stderr=subprocess.STDOUT, timeout=relays.SECONDS, check=False)
+        self.assertEqual(ran.returncode, 0, ran.stdout)
+
     def test_a_forward_to_a_guard_of_the_list(self):
-        """It is asked with the key that the forward has, under the same number; one that leads elsewhere is refused."""
+        """It is asked with the key that the forward has, under the same number; so is the first guard where it leads to
+        `retry` itself; one that leads elsewhere is refused."""
         with Guard(lambda came, _: returned(came)) as there:
             def forward(port):
                 reference = giop.Reference(b"IDL:A:1.0", 2, b"127.0.0.1", port, b"there")
@@ -260,6 +274,13 @@ class Retry(unittest.TestCase):
                 self.asked(relay, request(5, b"k", "add"), giop.reply(5, number_body(7)))
                 self.assertEqual([one.key for one in there.requests], [b"there"])
                 self.assertEqual(first.keys(), there.keys())
+            port = relays.free_port()
+            with Guard(forward(port)) as first, retry(first, there, published=f"localhost:{port}") as relay:
+                relay.begin()
+                first.answer = lambda came, count: returned(came) if count > 1 else forward(port)(came, count)
+                self.asked(relay, request(5, b"k", "add"), giop.reply(5, number_body(7)))
+                self.assertEqual([one.key for one in first.requests], [b"k", b"there"])
+                self.assertEqual(len(set(first.keys())), 1)
             with Guard(forward(1)) as first, retry(first, there) as relay:
                 relay.begin()
                 wanted = giop.reply(5, giop.system_body("IMP_LIMIT", NO, 0), status=giop.SYSTEM_EXCEPTION)

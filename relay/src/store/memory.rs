@@ -1,6 +1,7 @@
 //! A store in memory, which ends with the process.
 
 use super::{Begun, Error, Key, Outcome};
+use crate::metrics::metrics;
 use std::collections::HashMap;
 use std::sync::{Mutex, MutexGuard, PoisonError};
 use tokio::sync::watch;
@@ -35,9 +36,12 @@ impl Memory {
 
     /// What is found at once, or what tells when to look again.
     fn look(&self, key: &Key, expiration: u64) -> Result<Begun, watch::Receiver<()>> {
+        let _takes = metrics().takes("begin");
         let mut rows = self.rows();
         match rows.rows.get(key).map(|row| &row.state) {
-            Some(State::Done(outcome)) => return Ok(Begun::Done(outcome.clone())),
+            Some(State::Done(outcome)) => {
+                return Ok(Begun::Done { outcome: outcome.clone(), is_ours: true })
+            }
             Some(State::Begun(ended)) => return Err(ended.subscribe()),
             None if expiration < rows.least => return Ok(Begun::Expired),
             None => {}
@@ -51,12 +55,16 @@ impl Memory {
         loop {
             match self.look(key, expiration) {
                 Ok(begun) => return Ok(begun),
-                Err(mut ended) => _ = ended.changed().await,
+                Err(mut ended) => {
+                    let _waits = metrics().waits();
+                    _ = ended.changed().await;
+                }
             }
         }
     }
 
     pub fn finish(&self, key: &Key, outcome: Outcome) -> Result<Outcome, Error> {
+        let _takes = metrics().takes("finish");
         let mut rows = self.rows();
         let row = rows.rows.get_mut(key).ok_or(Error::Forgotten)?;
         if let State::Done(outcome) = &row.state {
@@ -67,6 +75,7 @@ impl Memory {
     }
 
     pub fn undo(&self, key: &Key) {
+        let _takes = metrics().takes("undo");
         let mut rows = self.rows();
         if matches!(rows.rows.get(key), Some(Row { state: State::Begun(_), .. })) {
             rows.rows.remove(key);
@@ -74,6 +83,7 @@ impl Memory {
     }
 
     pub fn purge(&self, now: u64) -> u64 {
+        let _takes = metrics().takes("purge");
         let mut rows = self.rows();
         let (before, mut least) = (rows.rows.len(), rows.least);
         rows.rows.retain(|_, row| {

@@ -18,7 +18,6 @@ use postgres::Postgres;
 use sqlite::Sqlite;
 use writer::Steps;
 
-use crate::metrics::metrics;
 use lemonrudder::cdr::Writer;
 use lemonrudder::{Completed, Order, Status};
 use std::fmt;
@@ -33,11 +32,12 @@ pub struct Key {
 }
 
 /// What was answered: the status of the Reply by its number, the order of the body's octets, and
-/// the body as it stands at a place divisible by 8.
+/// the body, with the place of its first octet modulo 8.
 #[derive(Clone, PartialEq, Eq, Debug)]
 pub struct Outcome {
     pub status: u32,
     pub order: Order,
+    pub place: u8,
     pub body: Vec<u8>,
 }
 
@@ -46,8 +46,9 @@ pub struct Outcome {
 pub enum Begun {
     /// It is new, and is now begun: it is to be finished or undone.
     New,
-    /// It was done before, with this outcome.
-    Done(Outcome),
+    /// It was done before, with this outcome: it is ours where it was begun in this life of this
+    /// guard.
+    Done { outcome: Outcome, is_ours: bool },
     /// It expires before W: what became of it may be forgotten.
     Expired,
 }
@@ -77,7 +78,7 @@ impl Outcome {
         let written = body.string(id).and_then(|body| body.ulong(minor)?.ulong(completed.number()));
         assert!(written.is_ok(), "no memory for {name}");
         let status = Status::SystemException.number();
-        Outcome { status, order: Order::Big, body: body.into_octets() }
+        Outcome { status, order: Order::Big, place: 0, body: body.into_octets() }
     }
 
     /// What is told of a request that was begun by a guard that lives no more: nobody can know
@@ -99,16 +100,16 @@ impl fmt::Display for Error {
 
 impl std::error::Error for Error {}
 
-/// Counts a step.
-fn taken(step: &str) {
-    metrics().steps.with_label_values(&[step]).inc();
-}
-
 /// A store. It is shared by `Arc`, and asked from any task.
 pub enum Store {
     Memory(Memory),
     /// A database, with what writes to it.
     Written(Steps),
+}
+
+/// Whether words are an address of PostgreSQL.
+fn is_address(words: &str) -> bool {
+    ["postgres://", "postgresql://"].iter().any(|it| words.starts_with(it))
 }
 
 impl Store {
@@ -123,12 +124,25 @@ impl Store {
             return Ok(Store::Memory(Memory::default()));
         }
         let name = words.to_owned();
-        let steps = if ["postgres://", "postgresql://"].iter().any(|it| words.starts_with(it)) {
+        let steps = if is_address(words) {
             writer::start(move || Postgres::open(&name, lease)).await?
         } else {
             writer::start(move || Sqlite::open(Path::new(&name))).await?
         };
         Ok(Store::Written(steps))
+    }
+
+    /// What is wrong with words that name a store, as far as that shows without opening it.
+    #[must_use]
+    pub fn fault(words: &str) -> Option<String> {
+        if is_address(words) {
+            // (a password may stand in it)
+            let opened = Postgres::open(words, Duration::from_secs(1));
+            return opened.err().map(|why| format!("store: {why}"));
+        }
+        let folder = Path::new(words).parent().filter(|it| !it.as_os_str().is_empty());
+        let is_there = words == "memory" || folder.is_none_or(Path::is_dir);
+        (!is_there).then(|| format!("{words}: its folder is not there"))
     }
 
     /// Begins a request, before anything of it is sent. Where it was begun before and is not
@@ -141,7 +155,6 @@ impl Store {
     ///
     /// `Away`, `Unusable`: nothing is begun, or it is undone once the store can be reached.
     pub async fn begin(&self, key: &Key, expiration: u64) -> Result<Begun, Error> {
-        taken("begin");
         match self {
             Store::Memory(store) => store.begin(key, expiration).await,
             Store::Written(steps) => steps.begin(key, expiration).await,
@@ -156,7 +169,6 @@ impl Store {
     ///
     /// `Forgotten`; `Away`: the store is closed.
     pub async fn finish(&self, key: &Key, outcome: Outcome) -> Result<Outcome, Error> {
-        taken("finish");
         match self {
             Store::Memory(store) => store.finish(key, outcome),
             Store::Written(steps) => steps.finish(key, outcome).await,
@@ -170,7 +182,6 @@ impl Store {
     ///
     /// `Away`: the store is closed.
     pub async fn undo(&self, key: &Key) -> Result<(), Error> {
-        taken("undo");
         match self {
             Store::Memory(store) => {
                 store.undo(key);
@@ -187,7 +198,6 @@ impl Store {
     ///
     /// `Away`, `Unusable`.
     pub async fn purge(&self, now: u64) -> Result<u64, Error> {
-        taken("purge");
         match self {
             Store::Memory(store) => Ok(store.purge(now)),
             Store::Written(steps) => steps.purge(now).await,

@@ -21,9 +21,9 @@ use tokio_postgres::{AsyncMessage, Client, Config, Connection, NoTls, Row, Socke
 
 type Failure = tokio_postgres::Error;
 /// What a statement is given that has a request done.
-type Values<'a> = [&'a (dyn ToSql + Sync); 6];
+type Values<'a> = [&'a (dyn ToSql + Sync); 7];
 
-const VERSION: i32 = 1;
+const VERSION: i32 = 2;
 /// How long it takes at most to connect.
 const PATIENCE: Duration = Duration::from_secs(3);
 /// Rows that one transaction takes out at most.
@@ -48,10 +48,10 @@ const TABLES: &str = "
     CREATE TABLE IF NOT EXISTS lemonrudder.outcome (
         client bytea NOT NULL, number integer NOT NULL, expiration bytea NOT NULL,
         guard bigint NOT NULL, waited boolean NOT NULL DEFAULT false,
-        status bigint, little boolean, body bytea, PRIMARY KEY (client, number));
+        status bigint, little boolean, place smallint, body bytea, PRIMARY KEY (client, number));
     CREATE INDEX IF NOT EXISTS outcome_by_expiration ON lemonrudder.outcome (expiration);
     CREATE TABLE IF NOT EXISTS lemonrudder.mark (version integer NOT NULL, least bytea NOT NULL);
-    INSERT INTO lemonrudder.mark SELECT 1, '\\x0000000000000000'
+    INSERT INTO lemonrudder.mark SELECT 2, '\\x0000000000000000'
         WHERE NOT EXISTS (SELECT 1 FROM lemonrudder.mark);
     COMMIT;
 ";
@@ -75,16 +75,16 @@ const STATEMENTS: [&str; 11] = [
     "INSERT INTO lemonrudder.outcome (client, number, expiration, guard)
         SELECT $1::bytea, $2::integer, $3::bytea, $4::bigint WHERE $3 >= (SELECT least FROM lemonrudder.mark)
         ON CONFLICT DO NOTHING",
-    "SELECT status, little, body, client IS NOT NULL, $3 < least
+    "SELECT status, little, place, body, client IS NOT NULL, $3 < least, guard
         FROM lemonrudder.mark LEFT JOIN lemonrudder.outcome ON client = $1 AND number = $2",
-    "UPDATE lemonrudder.outcome SET status = $4, little = $5, body = $6
+    "UPDATE lemonrudder.outcome SET status = $4, little = $5, place = $6, body = $7
         WHERE client = $1 AND number = $2 AND guard <> $3 AND status IS NULL
         AND NOT EXISTS (SELECT 1 FROM lemonrudder.guard
                         WHERE id = outcome.guard AND until >= clock_timestamp())
         RETURNING waited",
     "UPDATE lemonrudder.outcome SET waited = true
         WHERE client = $1 AND number = $2 AND status IS NULL",
-    "UPDATE lemonrudder.outcome SET status = $4, little = $5, body = $6
+    "UPDATE lemonrudder.outcome SET status = $4, little = $5, place = $6, body = $7
         WHERE client = $1 AND number = $2 AND guard = $3 AND status IS NULL RETURNING waited",
     "DELETE FROM lemonrudder.outcome
         WHERE client = $1 AND number = $2 AND guard = $3 AND status IS NULL RETURNING waited",
@@ -208,8 +208,8 @@ fn seconds(time: Duration) -> f64 {
     time.as_secs_f64()
 }
 
-fn values_of(outcome: &Outcome) -> (i64, bool) {
-    (outcome.status.into(), outcome.order == Order::Little)
+fn values_of(outcome: &Outcome) -> (i64, bool, i16) {
+    (outcome.status.into(), outcome.order == Order::Little, outcome.place.into())
 }
 
 /// What a row says: nothing where it is begun.
@@ -217,7 +217,8 @@ fn outcome_of(row: &Row) -> Result<Option<Outcome>, Failure> {
     let Some(status) = row.try_get::<_, Option<i64>>(0)? else { return Ok(None) };
     let order = if row.try_get(1)? { Order::Little } else { Order::Big };
     let status = u32::try_from(status).unwrap_or(u32::MAX);
-    Ok(Some(Outcome { status, order, body: row.try_get(2)? }))
+    let place = u8::try_from(row.try_get::<_, i16>(2)?).unwrap_or(0);
+    Ok(Some(Outcome { status, order, place, body: row.try_get(3)? }))
 }
 
 /// A transaction of a session.
@@ -244,17 +245,18 @@ impl Transaction<'_> {
         }
         let row = client.query_one(&says.find, &[id, number, &moment]).await?;
         if let Some(outcome) = outcome_of(&row)? {
-            return Ok(Done::Begun(Begun::Done(outcome)));
+            let is_ours = row.try_get::<_, i64>(6)? == *guard;
+            return Ok(Done::Begun(Begun::Done { outcome, is_ours }));
         }
-        let (is_there, is_late): (bool, bool) = (row.try_get(3)?, row.try_get(4)?);
+        let (is_there, is_late): (bool, bool) = (row.try_get(4)?, row.try_get(5)?);
         if !is_there {
             return Ok(if is_late { Done::Begun(Begun::Expired) } else { Done::Again });
         }
         let maybe = Outcome::maybe();
-        let (status, little) = values_of(&maybe);
-        let values: Values<'_> = [id, number, guard, &status, &little, &maybe.body];
+        let (status, little, place) = values_of(&maybe);
+        let values: Values<'_> = [id, number, guard, &status, &little, &place, &maybe.body];
         if self.changed(&client.query(&says.lose, &values).await?)? {
-            return Ok(Done::Begun(Begun::Done(maybe)));
+            return Ok(Done::Begun(Begun::Done { outcome: maybe, is_ours: false }));
         }
         let waits = client.execute(&says.wait, &[id, number]).await? == 1;
         Ok(if waits { Done::Waits } else { Done::Again })
@@ -262,8 +264,8 @@ impl Transaction<'_> {
 
     async fn finish(&self, key: &Key, outcome: &Outcome) -> Result<Done, Failure> {
         let Link { client, says, guard, .. } = self.link;
-        let (id, number, (status, little)) = (&key.client, &key.number, values_of(outcome));
-        let values: Values<'_> = [id, number, guard, &status, &little, &outcome.body];
+        let (id, number, (status, little, place)) = (&key.client, &key.number, values_of(outcome));
+        let values: Values<'_> = [id, number, guard, &status, &little, &place, &outcome.body];
         if self.changed(&client.query(&says.finish, &values).await?)? {
             return Ok(Done::Finished(Ok(outcome.clone())));
         }
@@ -323,7 +325,7 @@ fn place(step: &Step) -> (u8, Option<&Key>) {
 impl Link {
     /// Takes steps in one transaction. Once it has its lock the statements are sent without waiting
     /// for those before.
-    async fn transact(&self, steps: &[Step], renews: bool) -> Result<Vec<Done>, Failure> {
+    async fn transact(&self, steps: &[&Step], renews: bool) -> Result<Vec<Done>, Failure> {
         let Link { client, says, guard, lease, .. } = self;
         let purges = steps.iter().any(|step| matches!(step, Step::Purge(..)));
         client.batch_execute(if purges { LOCK } else { SHARE }).await?;
@@ -331,9 +333,9 @@ impl Link {
             client.execute(&says.renew, &[guard, &seconds(*lease)]).await?;
         }
         let mut order: Vec<usize> = (0..steps.len()).collect();
-        order.sort_by_key(|index| place(&steps[*index]));
+        order.sort_by_key(|index| place(steps[*index]));
         let with = Transaction { link: self, is_waited_for: Cell::new(false) };
-        let taken = try_join_all(order.iter().map(|index| with.take(&steps[*index]))).await?;
+        let taken = try_join_all(order.iter().map(|index| with.take(steps[*index]))).await?;
         if with.is_waited_for.get() {
             client.batch_execute(NOTIFY).await?;
         }
@@ -411,7 +413,7 @@ impl Postgres {
     }
 
     /// Takes steps in one transaction, over a new session where there is none.
-    async fn transact(&mut self, steps: &[Step]) -> Result<Vec<Done>, Error> {
+    async fn transact(&mut self, steps: &[&Step]) -> Result<Vec<Done>, Error> {
         let link = match self.link.take().filter(|link| !link.client.is_closed()) {
             Some(link) => link,
             None => {
@@ -435,7 +437,7 @@ impl Postgres {
 }
 
 impl Database for Postgres {
-    async fn write(&mut self, steps: &[Step]) -> Result<Vec<Done>, Error> {
+    async fn write(&mut self, steps: &[&Step]) -> Result<Vec<Done>, Error> {
         self.transact(steps).await
     }
 

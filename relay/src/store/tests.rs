@@ -83,7 +83,9 @@ fn key(client: &str, number: &str) -> Key {
 
 fn outcome(text: &str) -> Outcome {
     let order = if text.len() % 2 == 0 { Order::Big } else { Order::Little };
-    Outcome { status: u32::try_from(text.len()).unwrap(), order, body: text.into() }
+    let (status, place) =
+        (u32::try_from(text.len()).unwrap(), if order == Order::Big { 0 } else { 4 });
+    Outcome { status, order, place, body: text.into() }
 }
 
 /// An outcome as the table says it.
@@ -110,7 +112,8 @@ fn of_begun(begun: Result<Begun, Error>) -> String {
     match begun {
         Ok(Begun::New) => "new".into(),
         Ok(Begun::Expired) => "expired".into(),
-        Ok(Begun::Done(outcome)) => said(&outcome),
+        Ok(Begun::Done { outcome, is_ours: true }) => said(&outcome),
+        Ok(Begun::Done { outcome, is_ours: false }) => format!("{} of another", said(&outcome)),
         Err(error) => of_error(&error),
     }
 }
@@ -191,7 +194,7 @@ fn a_system_exception_is_as_the_standard_writes_it() {
     let mut want = vec![0, 0, 0, 35];
     want.extend(b"IDL:omg.org/CORBA/COMM_FAILURE:1.0\0\0");
     want.extend([0, 0, 0, 0, 0, 0, 0, 2]);
-    assert_eq!(Outcome::maybe(), Outcome { status: 2, order: Order::Big, body: want });
+    assert_eq!(Outcome::maybe(), Outcome { status: 2, order: Order::Big, place: 0, body: want });
 }
 
 #[tokio::test]
@@ -224,11 +227,13 @@ async fn a_file_outlives_its_guard() {
     first.store.close().await;
     drop(first);
     let steps = "
-        begin a 1 100   | one
-        begin a 2 100   | maybe     # its guard lives no more
+        begin a 1 100   | one of another
+        begin a 2 100   | maybe of another  # its guard lives no more
         finish a 2 two  | maybe
         begin a 4 10    | expired
         begin a 4 11    | new
+        finish a 4 four | four
+        begin a 4 11    | four
     ";
     over_file(&file).await.table(steps).await;
 }
@@ -286,7 +291,7 @@ struct Flaky {
 }
 
 impl Database for Flaky {
-    async fn write(&mut self, steps: &[Step]) -> Result<Vec<Done>, Error> {
+    async fn write(&mut self, steps: &[&Step]) -> Result<Vec<Done>, Error> {
         self.hand.permits.acquire().await.unwrap().forget();
         self.hand.batches.lock().unwrap().push(steps.len());
         let deed = self.hand.deeds.lock().unwrap().pop_front();
@@ -412,13 +417,15 @@ async fn a_full_disk_declines() {
     let steps =
         |name: &str| [Step::Begin(key(name, "1"), 100), Step::Finish(key(name, "1"), long.clone())];
     sqlite.limit(8);
-    let error = sqlite.write(&steps("a")).await.unwrap_err();
+    let steps = steps("a");
+    let steps: Vec<&Step> = steps.iter().collect();
+    let error = sqlite.write(&steps).await.unwrap_err();
     assert!(
         matches!(&error, Error::Away(why) if why.contains("full") && !why.contains('\n')),
         "{error}"
     );
     sqlite.limit(1 << 20);
-    let dones = sqlite.write(&steps("a")).await.unwrap();
+    let dones = sqlite.write(&steps).await.unwrap();
     assert!(matches!(dones[..], [Done::Begun(Begun::New), Done::Finished(Ok(_))]), "{dones:?}");
 }
 

@@ -2,9 +2,10 @@
 //! one transaction. Who comes while one is being written waits for the next.
 
 use super::{Begun, Error, Key, Outcome};
-use crate::metrics::metrics;
+use crate::metrics::{metrics, Takes, Waits};
 use std::collections::{HashMap, HashSet, VecDeque};
 use std::future::Future;
+use std::iter;
 use std::mem;
 use std::sync::atomic::{AtomicBool, Ordering};
 use std::sync::Arc;
@@ -19,6 +20,10 @@ use tracing::{error, info};
 
 /// Steps of one transaction at most.
 const MOST: usize = 1024;
+/// What part of the time of a transaction those have whom it told, to come along with the next one;
+/// and how often it is looked whether they have.
+const PART: u32 = 4;
+const LOOK: Duration = Duration::from_micros(50);
 /// How long after a failure the database is tried again.
 const PAUSE: Duration = Duration::from_millis(200);
 
@@ -52,7 +57,7 @@ pub enum Done {
 /// A database, as its writer uses it.
 pub trait Database {
     /// Takes steps in one transaction. Where it fails it is not known whether it took them.
-    fn write(&mut self, steps: &[Step]) -> impl Future<Output = Result<Vec<Done>, Error>>;
+    fn write(&mut self, steps: &[&Step]) -> impl Future<Output = Result<Vec<Done>, Error>>;
 
     /// Waits until what other guards do is to be looked at.
     fn told(&mut self) -> impl Future<Output = ()>;
@@ -68,9 +73,29 @@ type Given = Result<(Done, Option<Held>), Error>;
 struct Job {
     step: Step,
     caller: Option<oneshot::Sender<Given>>,
+    /// Its time, until it is taken for the first time; and that it waits for what another has begun.
+    takes: Option<Takes>,
+    waits: Option<Waits>,
+}
+
+impl Step {
+    /// What it is called in counters.
+    fn name(&self) -> &'static str {
+        match self {
+            Step::Begin(..) => "begin",
+            Step::Finish(..) => "finish",
+            Step::Undo(_) => "undo",
+            Step::Purge(..) => "purge",
+            Step::Close => "close",
+        }
+    }
 }
 
 impl Job {
+    fn new(step: Step, caller: Option<oneshot::Sender<Given>>) -> Job {
+        Job { takes: Some(metrics().takes(step.name())), step, caller, waits: None }
+    }
+
     fn tell(self, given: Given) {
         if let Some(caller) = self.caller {
             // (who is gone drops what is held, and that undoes it)
@@ -90,7 +115,7 @@ impl Drop for Held {
     fn drop(&mut self) {
         if !self.is_known {
             let step = Step::Undo(self.key.clone());
-            _ = self.jobs.send(Job { step, caller: None });
+            _ = self.jobs.send(Job::new(step, None));
         }
     }
 }
@@ -105,7 +130,7 @@ impl Steps {
     async fn ask(&self, step: Step) -> Given {
         let (caller, answer) = oneshot::channel();
         let closed = || Error::Away("the store is closed".into());
-        self.jobs.send(Job { step, caller: Some(caller) }).map_err(|_| closed())?;
+        self.jobs.send(Job::new(step, Some(caller))).map_err(|_| closed())?;
         answer.await.map_err(|_| closed())?
     }
 
@@ -150,7 +175,7 @@ impl Steps {
 
 impl Drop for Steps {
     fn drop(&mut self) {
-        _ = self.jobs.send(Job { step: Step::Close, caller: None });
+        _ = self.jobs.send(Job::new(Step::Close, None));
     }
 }
 
@@ -208,6 +233,9 @@ struct Writer<D> {
     /// Why it can't be written, and when it is tried again.
     trouble: Option<Error>,
     next: Instant,
+    /// How many steps may come along with the next transaction, and until when they are waited for.
+    all: usize,
+    until: Instant,
     is_closed: bool,
 }
 
@@ -222,6 +250,8 @@ impl<D: Database> Writer<D> {
             begun: HashSet::new(),
             trouble: None,
             next: Instant::now(),
+            all: 0,
+            until: Instant::now(),
             is_closed: false,
         }
     }
@@ -248,11 +278,28 @@ impl<D: Database> Writer<D> {
             if self.database.is_told() {
                 self.look_again();
             }
-            while let Ok(job) = jobs.try_recv() {
-                self.queue.push_back(job);
-            }
-            let batch = self.queue.drain(..self.queue.len().min(MOST)).collect();
+            self.gather(&mut jobs);
+            let batch: Vec<Job> = self.queue.drain(..self.queue.len().min(MOST)).collect();
+            let (told, began) = (batch.len(), Instant::now());
             self.write(batch).await;
+            self.take(&mut jobs);
+            self.all = told + self.queue.len();
+            self.until = Instant::now() + began.elapsed() / PART;
+        }
+    }
+
+    /// Takes the steps that have come.
+    fn take(&mut self, jobs: &mut UnboundedReceiver<Job>) {
+        self.queue.extend(iter::from_fn(|| jobs.try_recv().ok()));
+    }
+
+    /// Takes the steps that have come. Who was told of the last transaction soon has its next step:
+    /// that one comes along, where waiting for it takes little beside a transaction.
+    fn gather(&mut self, jobs: &mut UnboundedReceiver<Job>) {
+        self.take(jobs);
+        while self.queue.len() < self.all && Instant::now() < self.until {
+            thread::sleep(LOOK);
+            self.take(jobs);
         }
     }
 
@@ -278,20 +325,18 @@ impl<D: Database> Writer<D> {
 
     /// Writes steps in one transaction.
     async fn write(&mut self, batch: Vec<Job>) {
-        let (steps, callers): (Vec<Step>, Vec<_>) =
-            batch.into_iter().map(|job| (job.step, job.caller)).unzip();
+        let steps: Vec<&Step> = batch.iter().map(|job| &job.step).collect();
         let began = Instant::now();
         let written = self.database.write(&steps).await;
         metrics().writes.observe(began.elapsed().as_secs_f64());
         metrics().batches.observe(precise(steps.len()));
-        let batch = steps.into_iter().zip(callers).map(|(step, caller)| Job { step, caller });
         match written {
             Ok(dones) => {
                 if self.trouble.take().is_some() {
                     info!("the store can be written again");
                 }
                 self.is_ready.store(true, Ordering::Relaxed);
-                for (job, done) in batch.zip(dones) {
+                for (job, done) in batch.into_iter().zip(dones) {
                     self.done(job, done);
                 }
             }
@@ -300,20 +345,20 @@ impl<D: Database> Writer<D> {
                     error!("the store: {why}");
                 }
                 self.is_ready.store(false, Ordering::Relaxed);
-                self.failed(batch.collect());
+                self.failed(batch);
                 self.trouble = Some(why);
                 self.next = Instant::now() + PAUSE;
             }
         }
-        let waiting = self.waiting.values().map(Vec::len).sum::<usize>();
-        metrics().waiting.set(i64::try_from(waiting).unwrap_or(i64::MAX));
     }
 
     /// What comes of a step that was taken.
-    fn done(&mut self, job: Job, done: Done) {
+    fn done(&mut self, mut job: Job, done: Done) {
         let mut held = None;
+        job.takes = None;
         match (&job.step, &done) {
             (Step::Begin(key, _), Done::Waits) => {
+                job.waits.get_or_insert_with(|| metrics().waits());
                 self.waiting.entry(key.clone()).or_default().push(job);
                 return;
             }
@@ -350,7 +395,7 @@ impl<D: Database> Writer<D> {
                 _ => None,
             };
             if let Some(step) = undo {
-                self.queue.push_front(Job { step, caller: None });
+                self.queue.push_front(Job::new(step, None));
             }
             self.queue.push_back(job);
         }

@@ -206,20 +206,20 @@ async fn postgres_has_two_guards() {
     ";
     other.table(steps).await;
     one.table("finish a 1 one | one").await;
-    other.table("awaited | one").await;
+    other.table("awaited | one of another").await;
     one.table("undo a 2 |").await;
     other.table("awaited | new").await;
     // the other waits for one's third, and now one for the other's second
     one.table("begin a 2 100 | waits").await;
     other.table("finish a 2 two | two").await;
-    one.table("awaited | two").await;
+    one.table("awaited | two of another").await;
     // what one purges is expired for the other
     one.table("purge 101 | 2").await;
     other.table("begin a 1 100 | expired").await;
     // one's lease is over, by the clock of the database: the other takes it for lost, at once
     // where it is asked, and one goes by that
     server.say("UPDATE lemonrudder.guard SET until = clock_timestamp() WHERE id = 1").await;
-    other.table("begin a 3 100 | maybe").await;
+    other.table("begin a 3 100 | maybe of another").await;
     let steps = "
         finish a 3 three | maybe
         undo a 3         |
@@ -229,7 +229,7 @@ async fn postgres_has_two_guards() {
     // who ends gives its lease back
     one.table("begin a 4 101 | new").await;
     one.store.close().await;
-    other.table("begin a 4 101 | maybe").await;
+    other.table("begin a 4 101 | maybe of another").await;
 }
 
 #[tokio::test]
@@ -246,17 +246,19 @@ async fn postgres_guard_is_stopped_past_its_lease() {
     let guard = server.guard(Duration::from_secs(1)).await;
     let wait = |number: &str| guard.begins(key("a", number), 100);
     let (first, third) = (wait("1"), wait("3"));
-    assert_eq!((first.await.unwrap(), third.await.unwrap()), ("maybe".into(), "three".into()));
+    let of_another = |text: &str| format!("{text} of another");
+    assert_eq!(first.await.unwrap(), of_another("maybe"));
+    assert_eq!(third.await.unwrap(), of_another("three"));
     process.signal("CONT");
     assert_eq!(process.take("finish a 1 one"), "maybe");
     assert_eq!(process.take("begin a 1 100"), "maybe");
     // what nobody asked for meanwhile goes on
     assert_eq!(process.take("finish a 2 two"), "two");
-    assert_eq!(wait("2").await.unwrap(), "two");
+    assert_eq!(wait("2").await.unwrap(), of_another("two"));
     // and one that is killed is lost
     let last = wait("4");
     process.child.kill().unwrap();
-    assert_eq!(last.await.unwrap(), "maybe");
+    assert_eq!(last.await.unwrap(), of_another("maybe"));
 }
 
 #[tokio::test]
@@ -298,10 +300,10 @@ async fn postgres_goes_and_comes() {
 async fn postgres_of_another_version_is_not_used() {
     let server = Database::new("version").await;
     drop(server.guard(LONG).await);
-    server.say("UPDATE lemonrudder.mark SET version = 2").await;
+    server.say("UPDATE lemonrudder.mark SET version = 9").await;
     let store = Store::open(&server.address(), LONG).await.unwrap();
     let error = store.begin(&key("a", "1"), 100).await.unwrap_err();
-    assert_eq!(error, Error::Unusable("PostgreSQL: its tables are of version 2, not 1".into()));
+    assert_eq!(error, Error::Unusable("PostgreSQL: its tables are of version 9, not 2".into()));
     assert!(!store.ready().await);
     let error = Store::open("postgres://a b:c", LONG).await.err().unwrap();
     assert!(matches!(error, Error::Unusable(_)), "{error}");

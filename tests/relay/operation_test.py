@@ -1,0 +1,556 @@
+"""What an operator sees and says: counters, readiness, lines of the log, limits, certificates, and the program's words."""
+from __future__ import annotations
+
+import contextlib
+import os
+import re
+import signal
+import socket
+import ssl
+import subprocess
+import tempfile
+import threading
+import time
+import unittest
+import urllib.error
+import urllib.request
+from collections.abc import Callable, Iterator
+
+from tests import base, giop
+from tests.giop import MAYBE, NO, Reference
+from tests.giop_peers import Peer, ask, number_body, request, until, want
+from tests.programs import needs
+from tests.relay import relays
+from tests.relay.guard_test import CUT, GOODBYE, KEY, QUIET, Server, guarded, system
+from tests.relay.relays import Relay
+
+
+# ---- what is counted ----
+
+class Counters:
+    """What a relay counts, where it gives that to Prometheus."""
+
+    def __init__(self) -> None:
+        self.port = relays.free_port()
+        self.words = ("--metrics", f"127.0.0.1:{self.port}")
+
+    def asked(self, path: str) -> tuple[int, str]:
+        """The status and the text of a path; 0 where nobody listens yet."""
+        try:
+            with urllib.request.urlopen(f"http://127.0.0.1:{self.port}{path}", timeout=relays.SECONDS) as said:
+                return said.status, said.read().decode()
+        except urllib.error.HTTPError as refused:
+            with refused:
+                return refused.code, refused.read().decode()
+        except urllib.error.URLError as error:
+            if not isinstance(error.reason, ConnectionRefusedError):
+                raise
+            return 0, ""
+
+    def all(self) -> dict[str, float]:
+        """Each counter by its name and its label, without the parts of histograms but their counts."""
+        lines = [line.rsplit(" ", 1) for line in self.asked("/metrics")[1].splitlines() if line[0] != "#"]
+        return {re.sub(r"[\"}]|^lemonrudder_", "", re.sub(r"{\w+=", " ", name)): float(number)
+                for name, number in lines if not re.search(r"_(bucket|sum)\b", name)}
+
+    def of(self, name: str) -> float:
+        return self.all().get(name, 0)
+
+    @contextlib.contextmanager
+    def grow(self, **counts: int) -> Iterator[None]:
+        """What is done meanwhile has these grow by so much: behind `__` stands a label, with `_` for blanks."""
+        parts = {name: name.partition("__") for name in counts}
+        wanted = {f"{name} {word.replace('_', ' ')}".strip(): counts[whole] for whole, (name, _, word) in parts.items()}
+        before = self.all()
+        yield
+        until(lambda: all(self.of(name) - before.get(name, 0) == count for name, count in wanted.items()),
+              f"they grow by {wanted} from {before} to {self.all()}")
+
+
+@contextlib.contextmanager
+def counted(*words: str, **others: str) -> Iterator[tuple[Server, Relay, Counters]]:
+    """A server, a guard before it, and what that counts."""
+    counters = Counters()
+    with guarded(*counters.words, *words, **others) as (server, guard):
+        yield server, guard, counters
+
+
+class Counts(unittest.TestCase):
+    """Each counter counts what it says."""
+
+    @classmethod
+    def setUpClass(cls):
+        relays.program()
+
+    def test_requests_and_repeats(self):
+        """With a key and without one, also by a guard that was begun again; and the steps of each store."""
+        with tempfile.TemporaryDirectory() as folder:
+            for store in ("memory", os.path.join(folder, "kept")):
+                with self.subTest(store), counted(store=store) as (server, guard, counters):
+                    asked = request(1, KEY, "add", number=1)
+                    with counters.grow(requests_total__no=1, performed_total=1, store_step_seconds_count__begin=0):
+                        ask(guard.port, request(1, KEY, "add"), giop.reply(1, number_body(1)))
+                    with counters.grow(requests_total__yes=1, performed_total=1, repeats_total=0,
+                                       store_step_seconds_count__begin=1, store_step_seconds_count__finish=1):
+                        ask(guard.port, asked, giop.reply(1, number_body(2)))
+                    with counters.grow(requests_total__yes=1, performed_total=0, repeats_total=1,
+                                       repeats_after_restart_total=0, store_step_seconds_count__begin=1):
+                        ask(guard.port, asked, giop.reply(1, number_body(2)))
+                    server.once(GOODBYE, GOODBYE)
+                    with counters.grow(store_step_seconds_count__undo=1, refused_total__no_server_has_got_it=1):
+                        ask(guard.port, request(1, KEY, "add", number=2), system(1, "TRANSIENT", NO, 0xfffff001))
+                    if store == "memory":
+                        continue
+                    guard.end()
+                    guard.begin()
+                    with counters.grow(repeats_total=1, repeats_after_restart_total=1, performed_total=0, maybe_total=0):
+                        ask(guard.port, asked, giop.reply(1, number_body(2)))
+
+    def test_maybe(self):
+        """Each is counted, and said in the log with its key: of a server that is lost, of one that is slow, and of a guard
+        that was."""
+        with tempfile.TemporaryDirectory() as folder, \
+                counted("--timeout", "1", store=os.path.join(folder, "kept")) as (server, guard, counters):
+            server.once(CUT, QUIET, CUT)
+            for name, number in (("COMM_FAILURE", 1), ("TIMEOUT", 2), ("COMM_FAILURE", None)):
+                with counters.grow(maybe_total=1):
+                    ask(guard.port, request(1, KEY, "add", number=number), system(1, name, MAYBE))
+            guard.end()
+            guard.begin("sent")
+            with Peer(guard.port) as peer:
+                peer.tell(request(1, KEY, "add", number=3, client=b"one\ntwo"))
+                until(guard.died, "it dies")
+            guard.end()
+            guard.begin()
+            with counters.grow(maybe_total=1, repeats_after_restart_total=1):
+                ask(guard.port, request(1, KEY, "add", number=3, client=b"one\ntwo"), system(1, "COMM_FAILURE", MAYBE))
+            said = [line.split("told MAYBE")[1] for line in guard.said().splitlines() if "told MAYBE" in line]
+            want([re.sub(r".*(client=\S+ number=\S+|operation=\S+).*", r"\1", line) for line in said],
+                 ["client=A number=1", "client=A number=2", "operation=add", r"client=one\ntwo number=3"])
+
+    def test_what_is_under_way(self):
+        """How many, since when, how many wait for their first transmission; and what comes too late."""
+        with counted("--timeout", "2") as (server, guard, counters), Peer(guard.port) as peer, Peer(guard.port) as other:
+            may_go_on = threading.Event()
+            server.answer = lambda _: may_go_on.wait(relays.SECONDS) and None
+            for one in (peer, other):
+                one.tell(request(1, KEY, "slow", number=1))
+            until(lambda: (counters.of("parked"), counters.of("waiting")) == (2, 1), "both are under way")
+            until(lambda: counters.of("oldest_parked_seconds") > 0.3, "it grows older")
+            want(counters.of("connections"), 2)
+            want(counters.of("server_connections"), 1)
+            for one in (peer, other):
+                one.wants(system(1, "TIMEOUT", MAYBE))
+            until(lambda: (counters.of("parked"), counters.of("waiting")) == (0, 0), "neither is")
+            want(counters.of("oldest_parked_seconds"), 0)
+            with counters.grow(late_total=1):
+                may_go_on.set()
+
+    def test_of_retry(self):
+        """What it sends again, what it could send nowhere, and what it told MAYBE."""
+        with Server() as server:
+            counters = Counters()
+            with Relay("retry", "--guard", f"127.0.0.1:{server.port}", "--timeout", "2", *counters.words) as retry:
+                retry.begin()
+                server.once(CUT, GOODBYE)
+                with counters.grow(requests_total__no=1, sent_again_total=2, maybe_total=0):
+                    ask(retry.port, request(1, KEY, "add"), giop.reply(1, number_body(3)))
+                server.answer = lambda _: QUIET
+                with counters.grow(maybe_total=1):
+                    ask(retry.port, request(1, KEY, "add"), system(1, "TIMEOUT", MAYBE))
+                server.__exit__()
+                with counters.grow(refused_total__no_guard_has_got_it_in_time=1):
+                    ask(retry.port, request(1, KEY, "add"), system(1, "TIMEOUT", NO))
+                until(lambda: "told MAYBE" in retry.said(), "it is said")
+
+
+class Ready(unittest.TestCase):
+    """Whether a relay is ready."""
+
+    @classmethod
+    def setUpClass(cls):
+        relays.program()
+
+    @base.each(lambda: [("guard", "guard"), ("retry", "retry")])
+    def test_servers(self, role: str) -> None:
+        """Not while all servers or guards are away, or say nothing, and soon after one is there."""
+        counters, port = Counters(), relays.free_port()
+        words = ["--server", "--store", "memory"] if role == "guard" else ["--guard"]
+        words.insert(1, f"127.0.0.1:{port}")
+        with Relay(role, *counters.words, *words) as relay:
+            relay.begin()
+            want(counters.asked("/ready"), (503, "no server can be reached\n" if role == "guard" else
+                                            "no guard can be reached\n"))
+            with socket.create_server(("127.0.0.1", port)):
+                until(lambda: counters.asked("/ready") == (200, "ready\n"), "it is ready")
+
+    def test_a_server_that_accepts_nobody(self):
+        """It is said within a few seconds that none can be reached."""
+        with socket.socket() as full, contextlib.ExitStack() as stack:
+            full.bind(("127.0.0.1", 0))
+            full.listen(0)
+            # (until its queue is full nobody is accepted, and then who connects waits)
+            for _ in range(4):
+                peer = stack.enter_context(socket.socket())
+                peer.setblocking(False)
+                peer.connect_ex(full.getsockname())
+            counters = Counters()
+            with guarded(*counters.words, "--server", f"127.0.0.1:{full.getsockname()[1]}"):
+                begun = time.monotonic()
+                want(counters.asked("/ready")[0], 503)
+                self.assertLess(time.monotonic() - begun, 4.5)
+
+
+# ---- limits ----
+
+class Limits(unittest.TestCase):
+    """What a peer may take. Who takes more is ended with its reason, counted and said; nobody else notices."""
+
+    @classmethod
+    def setUpClass(cls):
+        relays.program()
+
+    @contextlib.contextmanager
+    def ended(self, why: str, *words: str, count: int = 1) -> Iterator[tuple[Server, Relay]]:
+        """A guard with these words, of which so many connections end for this reason; one of another kind is served."""
+        with counted(*words) as (server, guard, counters), Peer(guard.port) as other:
+            label = f"connections_ended_total {why}"
+            before = counters.of(label)
+            yield server, guard
+            until(lambda: counters.of(label) - before == count, f"{count} end since {why}: {counters.all()}")
+            until(lambda: guard.said().count(f'why="{why}"') >= count, guard.said())
+            server.answer = None
+            other.tell(request(9, KEY, "add"))
+            want(other.message().status, giop.NO_EXCEPTION)
+
+    def test_connections(self):
+        """Who comes when there are so many is closed."""
+        with self.ended("there are too many", "--peers", "3", count=2) as (_, guard), contextlib.ExitStack() as stack:
+            time.sleep(0.2)  # (until the connection that looked whether it listens is gone)
+            for index in range(4):
+                peer = stack.enter_context(Peer(guard.port))
+                if index < 2:
+                    peer.tell(giop.locate(1, KEY))
+                    peer.wants(giop.located(1, giop.OBJECT_HERE))
+                else:
+                    peer.ended()
+
+    def test_connections_of_an_address(self):
+        """Those of others are served."""
+        with self.ended("its address has too many", "--peers-per-address", "2") as (_, guard):
+            time.sleep(0.2)
+            with Peer(guard.port), Peer(guard.port) as third, socket.socket() as elsewhere:
+                third.ended()
+                elsewhere.bind(("127.0.0.2", 0))
+                elsewhere.settimeout(relays.SECONDS)
+                elsewhere.connect(("127.0.0.1", guard.port))
+                elsewhere.sendall(giop.locate(1, KEY))
+                here = giop.located(1, giop.OBJECT_HERE)
+                want(elsewhere.recv(len(here), socket.MSG_WAITALL), here)
+
+    def test_who_takes_nothing(self):
+        """It has --stalled seconds."""
+        with self.ended("the peer takes nothing", "--stalled", "1") as (server, guard), Peer(guard.port, 4096) as peer:
+            server.answer = lambda came: giop.reply(came.request_id, bytes(1 << 20))
+            for index in range(30):
+                peer.tell(request(index, KEY, "any"))
+            until(lambda: len(server.performed) == 30, "all come")
+            time.sleep(2)
+
+    def test_who_ends_no_message(self):
+        """A request that comes octet by octet has --idle seconds."""
+        with counted("--idle", "2") as (_, guard, counters), Peer(guard.port) as peer:
+            with counters.grow(connections_ended_total__it_was_idle=1), contextlib.suppress(OSError):
+                for octet in request(1, KEY, "add", bytes(80)):
+                    peer.tell(bytes([octet]))
+                    time.sleep(0.05)
+            want(peer.received(12), giop.CLOSE_CONNECTION)
+
+    def test_messages(self):
+        """A message may have --message octets, and those that are partial --partial."""
+        with self.ended("too many messages are partial", "--message", "10000", "--partial", "30000") as (_, guard), \
+                Peer(guard.port) as peer:
+            peer.tell(request(1, KEY, "any", bytes(12_000)))
+            peer.wants(system(1, "IMP_LIMIT", NO))
+            begun = [next(giop.frames_of(giop.cut(request(index, KEY, "any", bytes(4000)), [1020])[0])) for index in range(4)]
+            for frame in begun[:3]:
+                peer.tell(frame)
+            peer.tell(giop.locate(7, KEY))
+            peer.wants(giop.located(7, giop.OBJECT_HERE))
+            peer.tell(begun[3])
+            peer.wants(giop.MESSAGE_ERROR)
+
+    def test_how_long_an_outcome_is_kept(self):
+        """What expires later than --keep says is refused, and not sent; what expires before that is performed."""
+        with counted("--keep", "100") as (server, guard, counters):
+            # (the count of 100 ns since 15 October 1582, of a moment that is so many seconds away)
+            now = int((time.time() + 12_219_292_800) * 10_000_000)
+            for number, seconds in enumerate((90, 200, 1 << 30)):
+                refused = int(seconds > 100)
+                with counters.grow(refused_total__it_expires_too_late=refused), Peer(guard.port) as peer:
+                    peer.tell(request(1, KEY, "add", number=number, expiration=now + seconds * 10_000_000))
+                    peer.wants(system(1, "BAD_CONTEXT", NO) if refused else giop.reply(1, number_body(1)))
+            want(len(server.performed), 1)
+
+    def test_requests_under_way(self):
+        """More than --parked wait until one is answered."""
+        with counted("--parked", "4") as (server, guard, counters), Peer(guard.port) as peer:
+            may_go_on = threading.Event()
+            server.answer = lambda _: may_go_on.wait(relays.SECONDS) and None
+            for index in range(6):
+                peer.tell(request(index, KEY, "slow"))
+            until(lambda: counters.of("parked") == 4, "four are under way")
+            time.sleep(0.3)
+            want((counters.of("parked"), len(server.performed)), (4, 4))
+            may_go_on.set()
+            want(sorted(peer.message().request_id for _ in range(6)), list(range(6)))
+
+    @base.each(lambda: [("1", 1), ("3", 3)])
+    def test_connections_to_a_server(self, most: int) -> None:
+        """As many as --connections says, once requests wait on each."""
+        with guarded("--connections", str(most)) as (server, guard), Peer(guard.port) as peer:
+            may_go_on = threading.Event()
+            server.answer = lambda _: may_go_on.wait(relays.SECONDS) and None
+            for index in range(12):
+                peer.tell(request(index, KEY, "slow"))
+                until(lambda index=index: len(server.performed) == index + 1, "it comes")
+            want(server.connections, most)
+            may_go_on.set()
+
+
+# ---- certificates ----
+
+CERTIFIED = ("retry", "guard", "other", "stranger")
+
+
+@contextlib.contextmanager
+def certificates() -> Iterator[Callable[[str], str]]:
+    """A folder of two authorities, and of certificates of the first, but that of a stranger."""
+    with tempfile.TemporaryDirectory() as folder:
+        def file(name: str) -> str:
+            return os.path.join(folder, name)
+
+        def openssl(*words: str) -> None:
+            ran = subprocess.run(["openssl", *words], capture_output=True, text=True, check=False, cwd=folder)
+            if ran.returncode != 0:
+                raise AssertionError(ran.stderr)
+
+        key = ["-newkey", "ec", "-pkeyopt", "ec_paramgen_curve:prime256v1", "-noenc"]
+        for name in ("ours", "theirs"):
+            openssl("req", "-x509", *key, "-keyout", f"{name}.key", "-out", f"{name}.pem", "-subj", f"/CN={name}",
+                    "-days", "2")
+        for name in CERTIFIED:
+            of = "theirs" if name == "stranger" else "ours"
+            openssl("req", *key, "-keyout", f"{name}.key", "-out", f"{name}.csr", "-subj", f"/CN={name}")
+            with open(file("names"), "w", encoding="ascii") as names:
+                names.write("subjectAltName=DNS:localhost,IP:127.0.0.1")
+            openssl("x509", "-req", "-in", f"{name}.csr", "-CA", f"{of}.pem", "-CAkey", f"{of}.key", "-CAcreateserial",
+                    "-days", "2", "-extfile", "names", "-out", f"{name}.pem")
+        yield file
+
+
+@needs("openssl")
+class Certificates(unittest.TestCase):
+    """TLS between relays, and who may use which client ids."""
+
+    @classmethod
+    def setUpClass(cls):
+        relays.program()
+        stack = contextlib.ExitStack()
+        cls.addClassCleanup(stack.close)
+        cls.file = staticmethod(stack.enter_context(certificates()))
+
+    def words(self, name: str, authority: str = "ours") -> list[str]:
+        return ["--certificate", self.file(f"{name}.pem"), "--key", self.file(f"{name}.key"),
+                "--authorities", self.file(f"{authority}.pem")]
+
+    @contextlib.contextmanager
+    def guard(self, clients: str = "retry retry.\nother *\n") -> Iterator[tuple[Server, Relay, Counters]]:
+        with open(self.file("clients"), "w", encoding="ascii") as to:
+            to.write(clients)
+        with counted(*self.words("guard"), "--clients", self.file("clients")) as made:
+            yield made
+
+    @contextlib.contextmanager
+    def secured(self, guard: Relay, name: str) -> Iterator[Peer]:
+        """A client that shows a certificate."""
+        context = ssl.create_default_context(cafile=self.file("ours.pem"))
+        context.load_cert_chain(self.file(f"{name}.pem"), self.file(f"{name}.key"))
+        with Peer(guard.port) as peer:
+            peer.socket = context.wrap_socket(peer.socket, server_hostname="localhost")
+            yield peer
+
+    def test_two_relays(self):
+        """A request goes over TLS, under a client id that the certificate of retry may use."""
+        with self.guard() as (server, guard, _), \
+                Relay("retry", "--guard", f"localhost:{guard.port}", *self.words("retry")) as retry:
+            retry.begin()
+            ask(retry.port, request(1, KEY, "add"), giop.reply(1, number_body(1)))
+            with Peer(guard.port) as plain:
+                plain.tell(request(1, KEY, "add"))
+                with contextlib.suppress(ConnectionResetError):
+                    self.assertNotIn(b"GIOP", plain.received(100))
+            want(len(server.performed), 1)
+
+    def test_client_ids(self):
+        """A certificate may use those that the file says, and another's outcomes are not told."""
+        with self.guard() as (server, guard, counters):
+            for name, client, is_allowed in (("retry", b"retry.1", True), ("retry", b"other.1", False),
+                                             ("other", b"retry.1", True), ("other", b"other.1", True)):
+                refused = int(not is_allowed)
+                with counters.grow(refused_total__its_client_id_is_not_for_this_certificate=refused), \
+                        self.secured(guard, name) as peer:
+                    peer.tell(request(1, KEY, "add", number=1, client=client))
+                    want(peer.message().status, giop.NO_EXCEPTION if is_allowed else giop.SYSTEM_EXCEPTION)
+            want(len(server.performed), 2)
+            line = next(line for line in guard.said().splitlines() if "a request is refused" in line)
+            for word in ('names=["retry", "localhost"]', "client=other.1", "not for this certificate"):
+                self.assertIn(word, line)
+        with self.guard("nobody x\n") as (server, guard, _), self.secured(guard, "retry") as peer:
+            peer.tell(request(1, KEY, "add", number=1, client=b"retry.1"))
+            peer.wants(system(1, "NO_PERMISSION", NO))
+            want(server.performed, [])
+
+    def test_strangers(self):
+        """Who shows a certificate of another authority or none, or says nothing, is ended with its reason; others are
+        served meanwhile."""
+        with self.guard() as (_, guard, counters), self.secured(guard, "retry") as other:
+            with counters.grow(connections_ended_total__no_handshake=3):
+                with contextlib.suppress(OSError), self.secured(guard, "stranger") as peer:
+                    peer.tell(giop.locate(1, KEY))
+                    want(peer.received(1), b"")
+                with contextlib.suppress(OSError), Peer(guard.port) as peer:
+                    context = ssl.create_default_context(cafile=self.file("ours.pem"))
+                    peer.socket = context.wrap_socket(peer.socket, server_hostname="localhost")
+                    peer.tell(giop.locate(1, KEY))
+                    want(peer.received(1), b"")
+                with Peer(guard.port) as peer:
+                    peer.ended("after the time that a handshake has")
+            other.tell(request(1, KEY, "add"))
+            other.wants(giop.reply(1, number_body(1)))
+            ends = [line for line in guard.said().splitlines() if 'why="no handshake"' in line][-3:]
+            whys = ("verify failed", "did not return a certificate", "timed out")
+            want([why in end for why, end in zip(whys, ends)], [True] * 3)
+
+    def test_a_guard_that_is_a_stranger(self):
+        """One whose certificate is of another authority, or of another host, is sent nothing."""
+        with counted(*self.words("stranger", "ours")) as (server, guard, _):
+            for host in ("localhost", "127.0.0.3"):
+                with Relay("retry", "--guard", f"{host}:{guard.port}", "--timeout", "1", *self.words("retry")) as retry:
+                    retry.begin()
+                    ask(retry.port, request(1, KEY, "add"), system(1, "TIMEOUT", NO))
+                    self.assertIn("not connected", retry.said())
+            want(server.performed, [])
+
+
+# ---- the program's words ----
+
+def said_by(*words: str) -> tuple[int, str, str]:
+    """The status of the program, and what it prints."""
+    ran = subprocess.run([relays.program(), *words], capture_output=True, text=True, timeout=relays.SECONDS, check=False)
+    return ran.returncode, ran.stdout, ran.stderr
+
+
+class Words(unittest.TestCase):
+    """What the program makes of its words, and of files."""
+
+    @classmethod
+    def setUpClass(cls):
+        relays.program()
+
+    def test_help(self):
+        """What has to be said of a role stands above limits, and those above what is of TLS."""
+        for role, words in (("guard", ("--server", "--listen", "\nLimits:", "--parked", "--peers", "\nTLS", "--clients")),
+                            ("retry", ("--guard", "--listen", "\nLimits:", "--peers", "\nTLS", "--key"))):
+            status, out, _ = said_by(role, "--help")
+            places = [out.find(word + " " if word[0] == "-" else word) for word in words]
+            want((status, -1 in places, places), (0, False, sorted(places)))
+
+    def test_check(self):
+        """A file that is right is told nothing of; of another each fault is a line, with its place."""
+        with tempfile.TemporaryDirectory() as folder:
+            file = os.path.join(folder, "settings.toml")
+            good = "[guard]\nlisten = 'a:1'\nserver = 'b:2'\nstore = 'memory'\n"
+            reference = Reference(b"IDL:A:1.0", 2, b"c", 3, KEY).text()
+            for text, refers, lines in (
+                    (good, reference, []),
+                    (good + "timeout = 0\nservers = 1\n", reference, [":6: servers: is no setting", ":5: "]),
+                    (good, "IOR:00", [": [guard] ", "no reference"]),
+                    (good.replace("b:2", "a:1"), reference, ["it listens itself at a:1"])):
+                with open(file, "w", encoding="ascii") as to:
+                    to.write(text + f"reference = '{folder}/reference'\n")
+                with open(f"{folder}/reference", "w", encoding="ascii") as to:
+                    to.write(refers)
+                status, out, err = said_by("check", file)
+                want((status, out), (int(bool(lines)), ""))
+                for line in lines:
+                    self.assertIn(line, err)
+                self.assertEqual(all(line.startswith(f"lemonrudder: {file}:") for line in err.splitlines()), True, err)
+            want(said_by("check", os.path.join(folder, "nothing"))[0], 1)
+
+    def test_a_file_of_settings(self):
+        """A guard that is begun by it does what it says; one that is wrong does not begin."""
+        with tempfile.TemporaryDirectory() as folder, Server() as server:
+            file, port = os.path.join(folder, "guard.toml"), relays.free_port()
+            with open(file, "w", encoding="ascii") as to:
+                to.write(f"[guard]\nlisten = '127.0.0.1:{port}'\nserver = '127.0.0.1:{server.port}'\nstore = 'memory'\n"
+                         "message = 5000\nlog = 'json'\n")
+            with relays.Life(relays.program(), "guard", "--config", file) as guard:
+                guard.begin()
+                ask(port, request(1, KEY, "add"), giop.reply(1, number_body(1)))
+                ask(port, request(1, KEY, "add", bytes(6000)), system(1, "IMP_LIMIT", NO))
+                guard.end(signal.SIGTERM)
+                want({line[0] for line in guard.said().splitlines()}, {"{"})
+            with open(file, "a", encoding="ascii") as to:
+                to.write("drain = 'long'\n")
+            status, _, err = said_by("guard", "--config", file)
+            want((status, err.startswith("lemonrudder: ")), (2, True))
+
+    def test_what_leads_back_to_it(self):
+        """A relay whose server or guard would be itself is not begun, or sends nothing there."""
+        for role, which in (("guard", "server"), ("retry", "guard")):
+            status, _, err = said_by(role, "--listen", "127.0.0.1:1", f"--{which}", "127.0.0.1:1")
+            want((status, err), (2, f"lemonrudder: {which}: it listens itself at 127.0.0.1:1\n"))
+            with tempfile.TemporaryDirectory() as folder:
+                port = relays.free_port()
+                store = ["--store", "memory"] if role == "guard" else []
+                with relays.Life(relays.program(), role, "--listen", f"0.0.0.0:{port}", f"--{which}", f"localhost:{port}",
+                                 "--timeout", "1", *store) as relay:
+                    relay.begin()
+                    answer = ("TRANSIENT", NO, 0xfffff001) if role == "guard" else ("TIMEOUT", NO)
+                    ask(port, request(1, KEY, "add"), system(1, *answer))
+                    self.assertIn("it leads back to this relay", relay.said())
+                    self.assertEqual(os.listdir(folder), [])
+
+    def test_references(self):
+        """One is printed that leads to the same object at another address; what is none is refused in a line."""
+        given = Reference(b"IDL:A:1.0", 2, b"back", 2810, KEY)
+        for at, host, port in (("relay:2809", b"relay", 2809), ("[::1]:1", b"::1", 1)):
+            status, out, err = said_by("ior", "--at", at, given.text())
+            want((status, err, giop.reference_of(out.strip())), (0, "", given._replace(host=host, port=port)))
+        for words, status in ((["--at", "relay:2809", "IOR:00"], 1), (["--at", "relay", given.text()], 2)):
+            got = said_by("ior", *words)
+            want((got[0], got[1]), (status, ""))
+            self.assertNotEqual(got[2], "")
+
+    def test_addresses_of_both_kinds(self):
+        """It listens at several, also of IPv6, and a server may have one."""
+        with socket.create_server(("::1", 0), family=socket.AF_INET6) as listener:
+            port = listener.getsockname()[1]
+            with Relay("guard", "--store", "memory", "--server", f"[::1]:{port}", "--listen", f"[::1]:{relays.free_port()}") \
+                    as guard:
+                guard.begin()
+                at = guard.said()
+                found = int(re.search(r"\[::1\]:(\d+)", at)[1])
+                with socket.create_connection(("::1", found)) as peer:
+                    peer.sendall(request(1, KEY, "add"))
+                    there, _ = listener.accept()
+                    with there:
+                        came = there.recv(4096)
+                        there.sendall(giop.reply(giop.read(came).request_id, number_body(1)))
+                        wanted = giop.reply(1, number_body(1))
+                        want(peer.recv(len(wanted), socket.MSG_WAITALL), wanted)
+
+
+if __name__ == "__main__":
+    unittest.main()
