@@ -10,6 +10,7 @@ from typing import TYPE_CHECKING, Any, Optional
 from ._cdr import BIG, pack, results_of
 from ._engine import Asked
 from ._library import LemonrudderError, now, octets_of
+from ._messages import FtRequest
 from ._outcomes import GiveUp, Outcome, Refuse, SystemException, UserException, known_name, system_outcome
 from ._servants import Judged, RawReply
 from ._store import Kept, Store
@@ -80,7 +81,7 @@ class Durable:
 
     # ---- a request ----
 
-    async def perform(self, judged: Judged) -> Outcome:
+    async def perform(self, judged: Judged, ft: FtRequest) -> Outcome:
         """The outcome of a request that carries FT_REQUEST: that of the store; else, where it is not to be refused,
         what becomes of it, which is committed. Raises Refuse.
 
@@ -90,7 +91,7 @@ class Durable:
         asked, delay, is_in_doubt = judged.asked, _LEAST, False
         for _ in range(_TRIES):
             try:
-                found = await self._asked(asked) if is_in_doubt else await self.store.find(asked.ft)
+                found = await (self._asked(ft) if is_in_doubt else self.store.find(ft))
             except Refuse:
                 raise
             except Exception as error:
@@ -101,7 +102,7 @@ class Durable:
                 raise judged.answer
             if judged.answer is not None:
                 return judged.answer
-            ended = await self._attempt(asked, judged.performer, is_in_doubt)
+            ended = await self._attempt(asked, ft, judged.performer, is_in_doubt)
             if ended is not None:
                 self._note_success()
                 return ended
@@ -110,12 +111,12 @@ class Durable:
             delay = min(2 * delay, _MOST)
         return unknown("TRANSIENT")
 
-    async def _asked(self, asked: Asked) -> Optional[Outcome]:
+    async def _asked(self, ft: FtRequest) -> Optional[Outcome]:
         """What the store has of a request; asked until it says."""
         delay = _LEAST
         while True:
             try:
-                return await self.store.find(asked.ft)
+                return await self.store.find(ft)
             except Exception as error:
                 if not self.store.is_trouble(error):
                     raise
@@ -123,7 +124,7 @@ class Durable:
             await asyncio.sleep(delay)
             delay = min(2 * delay, _MOST)
 
-    async def _attempt(self, asked: Asked, performer: Any, is_in_doubt: bool) -> Optional[Outcome]:
+    async def _attempt(self, asked: Asked, ft: FtRequest, performer: Any, is_in_doubt: bool) -> Optional[Outcome]:
         """Performs a request of which the store has nothing. None: ask the store. Raises Refuse, but in doubt, where an
         earlier attempt may come true yet."""
         attempt = _Attempt()
@@ -146,7 +147,7 @@ class Durable:
             if attempt.outcome is not None:
                 # (its transaction is undone by what was raised in it, and committed before what was raised behind it;
                 # but COMMIT itself may have failed, and come true)
-                found = None if is_trouble else await self._asked(asked)
+                found = None if is_trouble else await self._asked(ft)
                 if is_trouble or found is not None:
                     return found
             if is_trouble and is_in_doubt:
@@ -160,7 +161,7 @@ class Durable:
             returned = error
         finally:
             _ATTEMPT.reset(token)
-        return await self._keep(asked, self._read(asked, returned))
+        return await self._keep(ft, self._read(asked, returned))
 
     def _write(self, asked: Asked, text: str, *words: object, error: BaseException) -> None:
         """Writes a line about the connection of a request."""
@@ -178,13 +179,13 @@ class Durable:
             self._write(asked, "no outcome of %a", asked.operation, error=error)
             return unknown("UNKNOWN" if isinstance(ended, Exception) else "INTERNAL")
 
-    async def _keep(self, asked: Asked, outcome: Outcome) -> Outcome:
+    async def _keep(self, ft: FtRequest, outcome: Outcome) -> Outcome:
         """Keeps an outcome in a transaction of its own, and returns the one that the store has then."""
         delay = _LEAST
         for _ in range(_TRIES):
             try:
                 async with self.store.transaction() as transaction:
-                    await self.store.put(transaction, asked.ft, outcome)
+                    await self.store.put(transaction, ft, outcome)
                 return outcome
             except Kept:
                 pass
@@ -192,7 +193,7 @@ class Durable:
                 if not self.store.is_trouble(error):
                     raise
                 self._note(error)
-            found = await self._asked(asked)
+            found = await self._asked(ft)
             if found is not None:
                 return found
             await asyncio.sleep(delay)

@@ -12,7 +12,7 @@ from ._library import (LIMIT, PARTIALS, Held, LemonrudderError, Octets, Text, ad
                        library, named, now, octets_of, structs)
 from ._messages import Body, FtRequest, listed
 from ._outcomes import Outcome, system_number, system_outcome
-from ._table import Completed, Counted, Error, Order, Part, ReplyStatus, ServerSetting, Why, Wish
+from ._table import Completed, Counted, Error, Order, Part, ReplyStatus, ServerSetting, SystemName, Why, Wish
 
 CONTEXTS = 64
 """How many service contexts of a request are read where nothing else is said."""
@@ -24,7 +24,7 @@ class Asked:
 
     ticket: a number of this request alone. arguments: the values of its arguments; None of a raw operation. body: its
     octets as they came, which begin with these. ft: what its FT_REQUEST says, if it carries one. contexts: how many
-    service contexts it has.
+    service contexts it has. refusal: by what it would be refused, where you are asked first: then it is raw.
     """
 
     ticket: int
@@ -38,6 +38,7 @@ class Asked:
     wish: int
     ft: Optional[FtRequest]
     contexts: int = 0
+    refusal: Optional[SystemName] = None
 
     @property
     def is_raw(self) -> bool:
@@ -61,13 +62,14 @@ class Engine(Held):
     how many outcomes are kept for repeats, at most `share` of each client, all of them without one. max_parked: how
     many requests are parked at a time; max_parked_of: of those that came on one connection; max_joined: how many wait
     for the outcome of one, beside the last who came. max_due: of how many octets due on a connection on it is fed no
-    more. max_client_id: the octets of a client's id.
+    more. max_client_id: the octets of a client's id. ask_first: whether a request with FT_REQUEST that would be refused
+    for its object, its operation or its arguments comes to you first, who may have its outcome; else refuse it so.
     Raises LemonrudderError (EMPTY, RANGE): the catalogue is as it was.
     """
 
     def __init__(self, catalogue: Catalogue, limit: int = LIMIT, partials: int = PARTIALS, capacity: int = 65536,
                  share: Optional[int] = None, *, max_parked: int = 1024, max_parked_of: int = 64, max_joined: int = 8,
-                 max_due: int = 1048576, max_client_id: int = 256) -> None:
+                 max_due: int = 1048576, max_client_id: int = 256, ask_first: bool = False) -> None:
         super().__init__()
         self._room = ctypes.create_string_buffer(65536)
         self._head = structs["lr_request"]()
@@ -79,6 +81,7 @@ class Engine(Held):
             ServerSetting.MESSAGE: limit, ServerSetting.PARTIALS: partials, ServerSetting.CAPACITY: capacity,
             ServerSetting.SHARE: share, ServerSetting.PARKED: max_parked, ServerSetting.PARKED_OF: max_parked_of,
             ServerSetting.JOINED: max_joined, ServerSetting.DUE: max_due, ServerSetting.CLIENT_ID: max_client_id,
+            ServerSetting.ASK_FIRST: ask_first,
         }
         try:
             for what, value in limits.items():
@@ -168,7 +171,7 @@ class Engine(Held):
         if not head.is_raw:
             arguments = body.unpack(self.signature(key, operation).arguments)
         return Asked(ticket, head.connection, key, operation, arguments, body, head.request_id, head.version,
-                     named(Wish, head.wish), ft, head.contexts)
+                     named(Wish, head.wish), ft, head.contexts, SystemName(head.refusal) if head.is_refused else None)
 
     def contexts(self, most: int = CONTEXTS) -> Tuple[Tuple[int, bytes], ...]:
         """Ids and data of the service contexts of the request that waits, the first `most` of them: reading them takes

@@ -159,7 +159,7 @@ def call(function: Any, *arguments: Any) -> int:
     Raises LemonrudderError; ValueError for a number that its parameter does not hold.
     """
     try:
-        answer = function(*arguments)
+        answer: int = function(*arguments)
     except ctypes.ArgumentError as error:
         raise ValueError(f"{function.__name__}: {error}") from None
     return answer if answer >= 0 else checked(answer)
@@ -184,7 +184,7 @@ def lent(octets: Text) -> Tuple[bytes, int]:
 
 def address_of(octets: bytes) -> int:
     """The address of the first octet. It counts as long as the octets are kept."""
-    return ctypes.cast(octets, ctypes.c_void_p).value or 0
+    return ctypes.cast(ctypes.c_char_p(octets), ctypes.c_void_p).value or 0
 
 
 def copied(room: Any, function: Any, *arguments: Any) -> bytes:

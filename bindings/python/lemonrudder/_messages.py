@@ -63,9 +63,6 @@ class Message:
     Request. key: the object key of a Request or LocateRequest whose target has one. operation: of a Request. body: of a
     Request, Reply or LocateReply. contexts: ids and data of the service contexts of a Request or Reply. ft: what its
     first FT_REQUEST says, of a Request that carries a valid one.
-
-    Reading its contexts takes time by the square of their number, thousands of them seconds: where peers are not
-    trusted, a smaller limit bounds that.
     """
 
     type: MessageType

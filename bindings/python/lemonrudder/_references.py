@@ -51,7 +51,9 @@ class Profile(NamedTuple):
         found = [(self.host, self.port)]
         for tag, data in self.components:
             try:
-                found += [Reader(data, data[0]).read("BsH")[1:]] if tag == _ALTERNATE and data else []
+                if tag == _ALTERNATE and data:
+                    _, host, port = Reader(data, data[0]).read("BsH")
+                    found.append((host, port))
             except (LemonrudderError, ValueError):
                 pass  # (it says nothing that can be read)
         return tuple(Address(host, port, self.key, min(self.minor or 0, 2)) for host, port in found)

@@ -102,7 +102,8 @@ class Road:
         """Ends at once. Calls that are pending end by ConnectionError."""
         self._is_closed = True
         closed = ConnectionError("the client is closed")
-        for future in [*(made.ended for made in self.calls.values()), *self._turns]:
+        waiting: List[asyncio.Future[Any]] = [*(made.ended for made in self.calls.values()), *self._turns]
+        for future in waiting:
             if not future.done():
                 future.set_exception(closed)
         self.calls.clear()
@@ -146,7 +147,7 @@ class Road:
 
     def _output(self) -> bytes:
         """Takes what is due."""
-        parts = []
+        parts: List[bytes] = []
         while True:
             size = call(library.lr_client_output, self._slot, self._room, len(self._room))
             if size == 0:

@@ -1,7 +1,7 @@
 """The objects of a Server: what performs their operations, and the types of these."""
 from __future__ import annotations
 
-from dataclasses import dataclass, replace
+from dataclasses import dataclass
 from typing import Any, Callable, Dict, Mapping, NamedTuple, Optional, Sequence, Tuple, Union
 
 from ._catalogue import Catalogue, Fronts, Signature
@@ -171,22 +171,12 @@ class Offer:
         return self.default
 
     def judged(self, asked: Asked) -> Judged:
-        """What becomes of a request that an engine took as raw, whatever it asks for."""
+        """What becomes of a request that an engine asks for, also of one that it would refuse. Raises KeyError: there
+        is nothing of its name."""
+        if asked.refusal is not None:
+            return Judged(asked, None, Refuse(asked.refusal.name))
         servant = self.found(asked.key)
-        if servant is None:
-            return Judged(asked, self.default, None if self.default is not None else Refuse("OBJECT_NOT_EXIST"))
-        performer = servant.operations.get(asked.operation)
-        try:
-            if performer is not None:
-                signature = performer.signature
-                if signature is not None:
-                    asked = replace(asked, arguments=asked.body.unpack(signature.arguments))
-                return Judged(asked, performer)
-            if servant.ids and asked.operation == "_non_existent":
-                return Judged(asked, None, Outcome(ReplyStatus.NO_EXCEPTION, BIG, pack("?", False)))
-            if servant.ids and asked.operation == "_is_a":
-                is_one = asked.body.unpack("s")[0] in (*servant.ids, _OBJECT)
-                return Judged(asked, None, Outcome(ReplyStatus.NO_EXCEPTION, BIG, pack("?", is_one)))
-        except LemonrudderError:
-            return Judged(asked, None, Refuse("MARSHAL"))
-        return Judged(asked, None, Refuse("BAD_OPERATION"))
+        if servant is not None and asked.operation not in servant.operations and asked.arguments is not None:
+            is_one = bool(asked.arguments) and asked.arguments[0] in (*servant.ids, _OBJECT)
+            return Judged(asked, None, Outcome(ReplyStatus.NO_EXCEPTION, BIG, pack("?", is_one)))
+        return Judged(asked, self.performer(asked.key, asked.operation))

@@ -6,9 +6,10 @@ import logging
 from functools import partial
 from typing import Any, Callable, Dict, List, Mapping, Optional, Sequence, Tuple, Union
 
+from ._catalogue import Catalogue
 from ._connection import PEER_ENDED, Connection
 from ._durable import Durable
-from ._engine import Asked, Catalogue, Engine
+from ._engine import Asked, Engine
 from ._library import LIMIT, PARTIALS, LemonrudderError, Text, octets_of
 from ._lines import ENDED, REFUSED, Lines
 from ._messages import Body
@@ -65,8 +66,7 @@ class Server:
     its outcome in the transaction of what it does, by current().store. One that does not has it written afterwards:
     that is for those that change nothing. An exception that it raises undoes its transaction, and is written so too.
     While the store can't be used, requests with FT_REQUEST are answered TRANSIENT. capacity and share then count for
-    nothing, and each locate is answered that the object is here. purge_every: the seconds after which
-    outcomes that expired are taken out, again and again; None: never.
+    nothing. purge_every: the seconds after which outcomes that expired are taken out, again and again; None: never.
 
     The logger `lemonrudder` has a line for each connection that ends, and why: at DEBUG where its peer or the server
     ended it. Of requests that are refused it has the first one of a connection and reason, and each second how many
@@ -178,10 +178,10 @@ class Server:
             raise LemonrudderError(Error.EMPTY, "the server is closed")
         loop = self._loop = asyncio.get_running_loop()
         if self._engine is None:
-            with self._catalogue() as catalogue:
-                self._engine = Engine(catalogue, *self._terms, **self._limits)
-            if self._durable is None:
-                self._trial.close()
+            with self._offer.catalogue() as catalogue:
+                # (what a store has is answered first, also of what is no more)
+                self._engine = Engine(catalogue, *self._terms, **self._limits, ask_first=self._durable is not None)
+            self._trial.close()
             self._ended, self._emptied = loop.create_future(), loop.create_future()
             self._sweep()
             if self._durable is not None:
@@ -234,7 +234,7 @@ class Server:
 
     def _change(self, change: Callable[[Catalogue], None]) -> None:
         """Changes one object of what is on offer."""
-        if self._engine is None or self._durable is not None:
+        if self._engine is None:
             change(self._trial)
             return
         with self._swappable() as catalogue:
@@ -249,7 +249,7 @@ class Server:
         with offer.catalogue() as catalogue:
             if self.is_closed:
                 raise LemonrudderError(Error.EMPTY, "the server is closed")
-            if self._engine is not None and self._durable is None:
+            if self._engine is not None:
                 self._swappable().close()
                 self._engine.swap(catalogue)
         self._offer = offer
@@ -262,15 +262,6 @@ class Server:
             self._engine.park()
         return Catalogue()
 
-    def _catalogue(self) -> Catalogue:
-        """What its engine has on offer. With a store that is all that there may be: what the store has is answered
-        first, also of what is no more."""
-        if self._durable is None:
-            return self._offer.catalogue()
-        catalogue = Catalogue()
-        catalogue.add_default()
-        return catalogue
-
     def _judged(self, asked: Asked) -> Judged:
         """What becomes of the request that waits. Raises KeyError: there is nothing of its name."""
         if self._durable is None:
@@ -281,7 +272,11 @@ class Server:
 
     def _enter(self, connection: Connection) -> None:
         """Takes a new connection, or drops it."""
-        if self._closing is not None or len(self._connections) >= self.max_connections:
+        if self._closing is not None:
+            # (it was accepted before the listener closed)
+            self._turn_away(connection, "the server closes", logging.DEBUG)
+            return
+        if len(self._connections) >= self.max_connections:
             self._turn_away(connection, f"there are {len(self._connections)}")
             return
         self._last += 1
@@ -293,10 +288,10 @@ class Server:
         connection.number = self._last
         self._connections[self._last] = connection
 
-    def _turn_away(self, connection: Connection, why: object) -> None:
+    def _turn_away(self, connection: Connection, why: object, level: int = logging.WARNING) -> None:
         """Drops a new connection."""
         self._turned_away += 1
-        self._lines.write("new connections", logging.WARNING, "%s is turned away: %s", connection, why)
+        self._lines.write("new connections", level, "%s is turned away: %s", connection, why)
         connection.transport.abort()
 
     def _leave(self, connection: Connection) -> None:

@@ -4,6 +4,7 @@ from __future__ import annotations
 import asyncio
 from concurrent.futures import ThreadPoolExecutor
 from contextlib import asynccontextmanager
+from functools import partial
 from typing import Any, AsyncIterator, Optional
 
 from ._messages import FtRequest
@@ -35,6 +36,17 @@ class _Group:
 
     def __init__(self, begun: asyncio.Future[None], ended: asyncio.Future[None]) -> None:
         self.begun, self.ended, self.size = begun, ended, 0
+
+
+def _pass_on(one: asyncio.Future[None], *, to: asyncio.Future[None]) -> None:
+    """Ends a future as another one has ended, if it has not."""
+    if to.done():
+        return
+    error = one.exception()
+    if error is None:
+        to.set_result(None)
+    else:
+        to.set_exception(error)
 
 
 class SqliteStore:
@@ -178,8 +190,7 @@ class SqliteStore:
             return
         self._group = None
         committing = asyncio.get_running_loop().run_in_executor(self._thread, self._commit, self._writer)
-        committing.add_done_callback(lambda one: group.ended.done() or (
-            group.ended.set_result(None) if one.exception() is None else group.ended.set_exception(one.exception())))
+        committing.add_done_callback(partial(_pass_on, to=group.ended))
 
     # ---- on the other thread ----
 

@@ -235,6 +235,8 @@ class ServerSetting(enum.IntEnum):
     """octets due on a connection from which on it is fed no more: 1048576"""
     CLIENT_ID = 9
     """octets of a client's id at most; who has a longer one is answered BAD_CONTEXT: 256"""
+    ASK_FIRST = 10
+    """1 where you are asked before a request with FT_REQUEST is refused: 0"""
 
 
 class Counted(enum.IntEnum):
@@ -509,6 +511,7 @@ CONSTANTS: Dict[str, int] = {
     "LR_SET_JOINED": 7,
     "LR_SET_DUE": 8,
     "LR_SET_CLIENT_ID": 9,
+    "LR_SET_ASK_FIRST": 10,
     "LR_COUNT_CONNECTIONS": 0,
     "LR_COUNT_KEPT": 1,
     "LR_COUNT_PARKED_NOW": 2,
@@ -585,6 +588,7 @@ STRUCTS: Dict[str, Tuple[Tuple[str, str], ...]] = {
         ("body_size", "uint64_t"), ("body_at", "uint64_t"), ("body_order", "uint32_t"), ("is_raw", "uint32_t"),
         ("request_id", "uint32_t"), ("version", "uint32_t"), ("wish", "uint32_t"), ("has_client", "uint32_t"),
         ("retention_id", "int32_t"), ("contexts", "uint32_t"), ("client_size", "uint64_t"), ("expiration", "uint64_t"),
+        ("is_refused", "uint32_t"), ("refusal", "uint32_t"),
     ),
     "lr_completion": (
         ("body_size", "uint64_t"), ("body_at", "uint64_t"), ("call", "int32_t"), ("how", "uint32_t"),

@@ -72,8 +72,9 @@ class Works:
             return True
         token = CURRENT.set(current)
         try:
-            if self._is_durable(asked):
-                self._begin(judged, connection, self._server._durable.perform(judged))
+            durable = self._server._durable
+            if durable is not None and asked.ft is not None:
+                self._begin(judged, connection, durable.perform(judged, asked.ft))
                 return True
             if performer is None:
                 self._answer_judged(judged, connection)
@@ -97,12 +98,13 @@ class Works:
 
     def _current(self, asked: Asked, connection: Connection) -> Current:
         """What its servant can know of the request that waits."""
-        ft, ticket = asked.ft, asked.ticket
+        ft, ticket, durable = asked.ft, asked.ticket, self._server._durable
+        client, number, expiration = (None, None, None) if ft is None else (ft.client, ft.retention_id, ft.expiration)
         contexts = self._server._engine.contexts() if asked.contexts else ()
-        return Current(asked.key, asked.operation, ft and ft.client, ft and ft.retention_id, ft and ft.expiration,
-                       connection.number, connection.peer, connection.certificate, contexts, asked.request_id,
-                       asked.version, asked.wish, lambda: self._wanted(ticket), partial(self._say, ticket),
-                       self._server._durable and partial(self._server._durable.put, asked))
+        return Current(asked.key, asked.operation, client, number, expiration, connection.number, connection.peer,
+                       connection.certificate, contexts, asked.request_id, asked.version, asked.wish,
+                       lambda: self._wanted(ticket), partial(self._say, ticket),
+                       None if durable is None else partial(durable.put, asked))
 
     def _is_durable(self, asked: Asked) -> bool:
         """Whether the outcome of a request is kept in the server's store, and not here."""
@@ -269,9 +271,11 @@ class Works:
 
     def _hand_in(self, asked: Asked, returned: Any, ticket: int) -> None:
         """Hands in what a function returned."""
-        if isinstance(returned, Outcome) or self._server._durable is not None:
-            outcome = returned if isinstance(returned, Outcome) else self._server._durable.outcome(asked, returned)
-            self._answer_by(asked, outcome, ticket)
+        durable = self._server._durable
+        if isinstance(returned, Outcome):
+            self._answer_by(asked, returned, ticket)
+        elif durable is not None:
+            self._answer_by(asked, durable.outcome(asked, returned), ticket)
         elif asked.arguments is not None:
             results = self._server._offer.performer(asked.key, asked.operation).signature
             self._server._engine.answer(*results_of(results.results if results else "", returned), ticket=ticket)

@@ -119,13 +119,13 @@ class _Char(IdlType):
 
 class _Real(IdlType):
     def __init__(self, name: str, format: str) -> None:
-        self.name, self.format = name, format
+        self.name, self.format, self._code = name, format, ">" + format
 
     def plain(self, value: Any) -> float:
         if isinstance(value, bool) or not isinstance(value, (int, float)):
             raise TypeError(f"{value!r} is no {self.name}")
         try:
-            struct.pack(">" + self.format, value)
+            struct.pack(self._code, value)
         except OverflowError:
             raise ValueError(f"{value} is no {self.name}") from None
         return float(value)
@@ -300,7 +300,8 @@ class enumeration(IdlType):
     """The type of an Enum."""
 
     def __init__(self, made: Type[Enum]) -> None:
-        self.made, self.items = made, list(made)
+        self.made = made
+        self.items: List[Enum] = list(made)
         if len(self.items) <= 255:
             self.format = f"e{len(self.items)}"
 
@@ -309,11 +310,11 @@ class enumeration(IdlType):
             raise TypeError(f"{value!r} is no {self.made.__name__}")
         return int(value)
 
-    def typed(self, plain: Any) -> Enum:
+    def typed(self, plain: int) -> Enum:
         return self.items[plain]
 
     def read(self, reader: Reader) -> Enum:
-        number, = reader.read("L")
+        number: int = reader.read("L")[0]
         if number >= len(self.items):
             raise ValueError(f"{number} is no {self.made.__name__}")
         return self.items[number]
@@ -329,7 +330,7 @@ class Struct:
     """A struct of IDL. It goes by its members where tuples do, as in what current().store takes."""
 
     def __iter__(self) -> Iterator[Any]:
-        return (getattr(self, one.name) for one in dataclasses.fields(self))  # type: ignore[arg-type]
+        return (getattr(self, one.name) for one in dataclasses.fields(self))
 
 
 class structure(IdlType):
@@ -448,7 +449,8 @@ class union(IdlType):
         _within("_d", lambda one: self.switch.write(writer, one), value._d)
         found = self.member(value._d)
         if found is not None:
-            _within(found[0], lambda one: found[1].write(writer, one), value._v)
+            name, member = found
+            _within(name, lambda one: member.write(writer, one), value._v)
         elif value._v is not None:
             raise ValueError(f"{value._d!r} has no member, and there is a value: {value._v!r}")
 
@@ -722,20 +724,22 @@ class Stub:
 
     async def _call(self, operation: Operation, *values: Any) -> Any:
         """Calls an operation by its arguments, and returns its results as a method does."""
-        client, until = self._client, {"timeout": self._timeout, "expiration": self._expiration}
+        client, timeout, expiration = self._client, self._timeout, self._expiration
         prepared = _within(operation.name, lambda values: operation._body(operation.arguments, values)
                            if operation.is_raw else operation._plains(operation.arguments, values), values)
         formats = operation.signature
         try:
             if operation.is_raw:
                 wish = Wish.NONE if operation.is_oneway else Wish.FULL
-                body = await client.call_raw(self._key, operation.name, prepared, wish=wish, **until)
+                body = await client.call_raw(self._key, operation.name, prepared, wish=wish, timeout=timeout,
+                                             expiration=expiration)
                 return None if operation.is_oneway else operation.returned(body)
             if operation.is_oneway:
-                await client.oneway(self._key, operation.name, formats.arguments, prepared, **until)
+                await client.oneway(self._key, operation.name, formats.arguments, prepared, timeout=timeout,
+                                    expiration=expiration)
                 return None
             result = await client.call(self._key, operation.name, formats.arguments, prepared, formats.results,
-                                       formats.raises, **until)
+                                       formats.raises, timeout=timeout, expiration=expiration)
         except _outcomes.UserException as raised:
             unraised = operation.unraised(raised)
             if unraised is raised:

@@ -212,8 +212,6 @@ impl Message<'_> {
     }
 
     /// The service contexts of a Request or Reply, in order.
-    ///
-    /// To read all takes the square of their count, which a peer may make large: take some.
     pub fn contexts(&mut self) -> Contexts<'_> {
         Contexts::of(&mut self.assembler.slot, self.said.contexts, sys::lr_assembler_context)
     }

@@ -7,14 +7,14 @@
 //! until they are answered. An [`Assembler`] makes messages of a stream, [`write`](mod@write)
 //! writes them, [`cdr`] reads and writes values, and [`Ior`] is a reference to an object.
 //!
-//! Nothing here opens a socket, reads a clock (but `Moment::now`) or starts a thread. An object
-//! may be given to another thread, but not be used by two at once.
+//! Nothing here opens a socket (but `idl::Caller`), reads a clock (but `Moment::now`) or starts a
+//! thread. An object may be given to another thread, but not be used by two at once.
 //!
 //! The functions of the library are proved; this crate over them is tested.
 //!
 //! The crate is without `std`, and wants an allocator. Its feature `std`, which is on by default,
-//! adds what asks the system: `Moment::now` and `Settings::default`. `examples/bare` is a
-//! program without it.
+//! adds what asks the system: `Moment::now`, `Settings::default` and `idl::Caller`. `examples/bare`
+//! is a program without it.
 
 #![no_std]
 #![deny(missing_docs)]
@@ -29,6 +29,7 @@ pub mod cdr;
 mod client;
 mod contexts;
 mod error;
+pub mod idl;
 mod ior;
 mod limits;
 mod moment;

@@ -69,6 +69,9 @@ impl Settings {
         /// How many octets a client's id may have; who has a longer one is answered BAD_CONTEXT.
         /// Else 256.
         client_id: u64 = LR_SET_CLIENT_ID;
+        /// Whether a request with FT_REQUEST is asked for before it is refused for its object, its
+        /// operation or its arguments ([`Request::refusal`]). Else it is refused.
+        ask_first: bool = LR_SET_ASK_FIRST;
     }
 }
 
@@ -668,6 +671,14 @@ impl Request<'_> {
     #[must_use]
     pub fn is_raw(&self) -> bool {
         self.said.is_raw != 0
+    }
+
+    /// By which exception it would be refused, where that is so and it is asked for first
+    /// ([`Settings::ask_first`]): it is raw then.
+    #[must_use]
+    pub fn refusal(&self) -> Option<SystemName> {
+        let is_refused = self.said.is_refused != 0;
+        SystemName::from_number(self.said.refusal).filter(|_| is_refused)
     }
 
     /// Its request id.

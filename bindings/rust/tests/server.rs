@@ -7,7 +7,7 @@ use lemonrudder::cdr::{Reader, Writer};
 use lemonrudder::write::{self, Request};
 use lemonrudder::{
     Assembler, Catalogue, Completed, Error, Fault, FtRequest, Limits, Message, MessageType, Moment,
-    Order, Server, Settings, Signature, Status, SystemName, Type, Version, Why, Wish,
+    Order, Outcome, Server, Settings, Signature, Status, SystemName, Type, Version, Why, Wish,
 };
 
 const NOW: Moment = Moment(50);
@@ -321,6 +321,40 @@ fn a_raw_operation_has_octets() -> Result<(), Error> {
     let permanent = Status::LocationForwardPerm;
     assert_eq!(server.asked()?.unwrap().answer_raw(permanent, &body), Err(Error::Range));
     server.give_up();
+    Ok(())
+}
+
+#[test]
+fn one_that_would_be_refused_is_asked_first() -> Result<(), Error> {
+    let settings = Settings::default().ask_first(true);
+    let mut server = Server::open(bank::catalogue()?, &settings)?;
+    server.connect(1)?;
+    let mut body = Writer::new(Order::Big);
+    let body = body.longlong(7)?.as_octets().to_vec();
+    let stored = Outcome { status: Status::NoException, order: Order::Big, body: body.clone() };
+    let others = [
+        ("none", "deposit", "OBJECT_NOT_EXIST"),
+        ("bank", "gone", "BAD_OPERATION"),
+        ("bank", "deposit", "MARSHAL"),
+    ];
+    for (key, operation, name) in others {
+        let octets = request(key.as_bytes(), operation, Some(1), b"")?;
+        server.serve(1, NOW, &octets, |request| {
+            assert!(request.is_raw());
+            assert_eq!(request.answer(&Writer::new(Order::Big)), Err(Error::Outcome));
+            request.answer_unkept(&stored)
+        })?;
+        assert_eq!(read(&server.take_output(1), |message| message.body().to_vec())?, body);
+        server.serve(1, NOW, &octets, |request| {
+            let refusal = request.refusal().expect("it would be refused");
+            request.refuse(refusal, 0)
+        })?;
+        assert_eq!(exception_of(&server.take_output(1))?, (id_of(name), 0, 1));
+    }
+    server.serve(1, NOW, &deposit(1, 5)?, |request| {
+        assert!(!request.is_raw() && request.refusal().is_none());
+        request.answer_unkept(&stored)
+    })?;
     Ok(())
 }
 

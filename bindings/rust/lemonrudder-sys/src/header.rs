@@ -138,6 +138,7 @@ pub const LR_SET_PARKED_OF: u32 = 6;
 pub const LR_SET_JOINED: u32 = 7;
 pub const LR_SET_DUE: u32 = 8;
 pub const LR_SET_CLIENT_ID: u32 = 9;
+pub const LR_SET_ASK_FIRST: u32 = 10;
 
 pub const LR_COUNT_CONNECTIONS: u32 = 0;
 pub const LR_COUNT_KEPT: u32 = 1;
@@ -228,6 +229,8 @@ pub struct lr_request {
     pub contexts: u32,
     pub client_size: u64,
     pub expiration: u64,
+    pub is_refused: u32,
+    pub refusal: u32,
 }
 
 #[repr(C)]

@@ -1,5 +1,7 @@
 //! A bank whose accounts and outcomes are one SQLite file, over tokio: `durable-bank FILE ADDRESS
-//! PORT [SECONDS]`, for `examples/bank.idl`, with the tables of the other durable banks.
+//! PORT [SECONDS]`, for `examples/bank.idl`, with the tables of the other durable banks. FILE may be
+//! `memory:` and the path of a file by which a bank in memory hands over all that it has, at its
+//! end, to the next one.
 //!
 //! It prints its reference, and serves until SIGTERM. A thread does what all requests that wait
 //! ask for in one transaction, with their outcomes, before any of them is answered; every so many
@@ -19,7 +21,14 @@ use tokio::net::TcpListener;
 use tokio_bank::{serve, share, tell_due, Servant, Shared};
 
 const USAGE: &str = "usage: durable-bank FILE ADDRESS PORT [SECONDS]";
-const TYPES: [&[u8]; 2] = [b"IDL:Bank:1.0", b"IDL:omg.org/CORBA/Object:1.0"];
+const TYPE: &str = "IDL:Bank:1.0";
+const OBJECT: &str = "IDL:omg.org/CORBA/Object:1.0";
+const BALANCE: Signature = Signature::new(&[Type::String], &[Type::LongLong]);
+const DEPOSIT: Signature = Signature {
+    arguments: &[Type::String, Type::LongLong],
+    raises: &[(store::OVERDRAWN, &[Type::LongLong])],
+    ..BALANCE
+};
 const TRANSIENT: &str = "IDL:omg.org/CORBA/TRANSIENT:1.0";
 const MOST_GROUPED: usize = 256;
 const MOST_NAME: usize = 31;
@@ -72,8 +81,11 @@ fn reach(point: &str) {
 impl Bank {
     fn open(jobs: Sender<Job>) -> Result<Bank, Error> {
         let mut catalogue = Catalogue::open()?;
-        catalogue.default_object()?;
-        let settings = Settings::default().message(4096).parked(1024);
+        catalogue.object("bank")?;
+        catalogue.repository_ids("bank", &[TYPE])?;
+        catalogue.operation("bank", "deposit", &DEPOSIT)?;
+        catalogue.operation("bank", "balance", &BALANCE)?;
+        let settings = Settings::default().message(4096).parked(1024).ask_first(true);
         Ok(Bank { server: Server::open(catalogue, &settings)?, jobs })
     }
 
@@ -101,7 +113,7 @@ impl Servant for Bank {
                 Ok(ticket) => {
                     reach("asked");
                     let job = Job { ticket, key, order, is_sure: false, is_in_doubt: false };
-                    // (the thread ends with the process)
+                    // (the thread is there as long as the server)
                     _ = jobs.send(job);
                     Ok(())
                 }
@@ -119,26 +131,25 @@ fn unknown() -> Result<Outcome, Error> {
     Ok(Outcome { status: Status::SystemException, order: body.order(), body: body.into_octets() })
 }
 
-/// Reads what a request asks for. Every key leads to the one object, so it is judged here: what
-/// the store has of its key is answered first.
+/// Reads what a request asks for, whose arguments are right by their types, or why it is refused.
+/// One that would be refused is asked for too: what the store has of its key is answered first.
 fn judge(request: &Request<'_>) -> Result<Order, Error> {
-    let mut arguments = request.reader();
-    if request.key() != b"bank" {
-        return Ok(Order::Refused(SystemName::ObjectNotExist));
+    if let Some(name) = request.refusal() {
+        return Ok(Order::Refused(name));
     }
-    match request.operation() {
-        b"_non_existent" => Ok(Order::Is(false)),
-        b"_is_a" => Ok(Order::Is(TYPES.contains(&arguments.string()?))),
-        b"balance" => Ok(match name_in(arguments.string()?) {
-            Some(account) => Order::Balance { account },
-            None => Order::Refused(SystemName::BadParam),
-        }),
-        b"deposit" => Ok(match name_in(arguments.string()?) {
-            Some(account) => Order::Deposit { account, amount: arguments.longlong()? },
-            None => Order::Refused(SystemName::BadParam),
-        }),
-        _ => Ok(Order::Refused(SystemName::BadOperation)),
+    let (operation, mut arguments) = (request.operation(), request.reader());
+    if operation == b"_non_existent" {
+        return Ok(Order::Is(false));
     }
+    let text = arguments.string()?;
+    if operation == b"_is_a" {
+        return Ok(Order::Is(text == TYPE.as_bytes() || text == OBJECT.as_bytes()));
+    }
+    Ok(match name_in(text) {
+        None => Order::Refused(SystemName::BadParam),
+        Some(account) if operation == b"balance" => Order::Balance { account },
+        Some(account) => Order::Deposit { account, amount: arguments.longlong()? },
+    })
 }
 
 /// The name of an account: what can be printed, not too long.
@@ -238,14 +249,14 @@ fn waiting(jobs: &Receiver<Job>, within: Duration) -> Result<Vec<Job>, RecvTimeo
     Ok([first].into_iter().chain(jobs.try_iter()).take(MOST_GROUPED).collect())
 }
 
-/// The thread of the store.
+/// The thread of the store, until no one gives it jobs.
 fn work(mut store: Store, jobs: Receiver<Job>, bank: Shared<Bank>, every: Duration) {
     let mut next = Instant::now() + every;
     loop {
         let mut group = match waiting(&jobs, next.saturating_duration_since(Instant::now())) {
             Ok(group) => group,
             Err(RecvTimeoutError::Timeout) => Vec::new(),
-            Err(RecvTimeoutError::Disconnected) => return,
+            Err(RecvTimeoutError::Disconnected) => return store.hand_over(),
         };
         let whole = if group.len() > 1 { perform_all(&mut store, &mut group) } else { None };
         let ends = whole.unwrap_or_else(|| {
@@ -273,8 +284,10 @@ async fn main() -> Result<(), Box<dyn std::error::Error>> {
     let (jobs, given) = channel();
     let bank = share(Bank::open(jobs)?);
     let shared = bank.clone();
-    thread::spawn(move || work(store, given, shared, Duration::from_secs(every)));
+    let worker = thread::spawn(move || work(store, given, shared, Duration::from_secs(every)));
     let port = listener.local_addr()?.port();
-    println!("{}", Ior::iiop("IDL:Bank:1.0", Version::V12, address, port, b"bank")?.to_text()?);
-    serve(listener, &bank).await
+    println!("{}", Ior::iiop(TYPE, Version::V12, address, port, b"bank")?.to_text()?);
+    serve(listener, &bank).await?;
+    bank.lock().unwrap().servant.jobs = channel().0;
+    worker.join().map_err(|_| "the thread of the store failed".into())
 }

@@ -1,12 +1,12 @@
 //! The SQLite file: accounts, the outcomes of requests by their keys, and the mark W, the greatest
 //! expiration that was taken out, plus 1. A request that expires before W is refused, whatever
-//! clocks say.
+//! clocks say. In memory it is the same, and at its end a file, which the next one takes over.
 
 use lemonrudder::{cdr::Writer, Error, FtRequest, Moment, Order, Outcome, Status};
 use rusqlite::{params, Connection, OptionalExtension};
-use std::time::Duration;
+use std::{fs, path::Path, time::Duration};
 
-const OVERDRAWN: &str = "IDL:Bank/Overdrawn:1.0";
+pub const OVERDRAWN: &str = "IDL:Bank/Overdrawn:1.0";
 const VERSION: i64 = 1;
 const TABLES: &str = "
     PRAGMA journal_mode = WAL;
@@ -21,12 +21,27 @@ const TABLES: &str = "
         WITHOUT ROWID;
     INSERT INTO forgotten SELECT 1, zeroblob(8) WHERE NOT EXISTS (SELECT 1 FROM forgotten);
     COMMIT;";
+/// All that is in the file that was handed over.
+const ROWS: &str = "
+    BEGIN IMMEDIATE;
+    INSERT INTO outcome SELECT * FROM last.outcome;
+    INSERT INTO account SELECT * FROM last.account;
+    DELETE FROM forgotten;
+    INSERT INTO forgotten SELECT * FROM last.forgotten;
+    COMMIT;
+    DETACH last;";
 
 /// Why a transaction has to be undone, in a line.
 pub struct Failure(String);
 
 impl From<rusqlite::Error> for Failure {
     fn from(error: rusqlite::Error) -> Failure {
+        Failure(error.to_string())
+    }
+}
+
+impl From<std::io::Error> for Failure {
+    fn from(error: std::io::Error) -> Failure {
         Failure(error.to_string())
     }
 }
@@ -65,16 +80,32 @@ fn octets(moment: u64) -> [u8; 8] {
     moment.to_be_bytes()
 }
 
+/// Where a store in memory is handed over.
+fn handed(path: &str) -> Option<&str> {
+    path.strip_prefix("memory:")
+}
+
 fn open(path: &str) -> Result<Connection, Failure> {
-    let file = Connection::open(path)?;
+    let last = handed(path).filter(|it| Path::new(it).exists());
+    let file = match handed(path) {
+        Some(_) => Connection::open_in_memory()?,
+        None => Connection::open(path)?,
+    };
     file.busy_timeout(Duration::from_secs(5))?;
     file.execute_batch(TABLES)?;
+    if let Some(last) = last {
+        file.execute("ATTACH ? AS last", [last])?;
+        file.execute_batch(ROWS)?;
+    }
     let version =
         file.query_row("SELECT version FROM forgotten", [], |row| row.get::<_, i64>(0))?;
-    match version {
-        VERSION => Ok(file),
-        _ => Err(Failure(format!("it has outcomes of version {version}, and not {VERSION}"))),
+    if version != VERSION {
+        return Err(Failure(format!("it has outcomes of version {version}, and not {VERSION}")));
     }
+    if let Some(last) = last {
+        fs::remove_file(last)?;
+    }
+    Ok(file)
 }
 
 impl Store {
@@ -118,6 +149,20 @@ impl Store {
             .file
             .take()
             .filter(|file| file.is_autocommit() || file.execute_batch("ROLLBACK").is_ok());
+    }
+
+    /// Hands over what is in memory, by a file that is there as a whole or not at all.
+    pub fn hand_over(&self) {
+        let (Some(path), Some(file)) = (handed(&self.path), &self.file) else { return };
+        let new = format!("{path}.new");
+        let write = || -> Result<(), Failure> {
+            _ = fs::remove_file(&new);
+            file.execute("VACUUM INTO ?", [&new])?;
+            Ok(fs::rename(&new, path)?)
+        };
+        if let Err(failure) = write() {
+            eprintln!("durable-bank: {path}: nothing is handed over: {}", failure.0);
+        }
     }
 
     pub fn find(&mut self, key: &Key) -> Result<Option<Outcome>, Failure> {
