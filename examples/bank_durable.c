@@ -5,8 +5,9 @@
  *     cc -o bank_durable bank_durable.c bank_sqlite.c loop.c $(pkg-config --cflags --libs lemonrudder sqlite3) -pthread
  *     ./bank_durable bank.db 127.0.0.1 2809
  *
- * STORE is the path of a SQLite file. With -DBANK_POSTGRES, bank_postgres.c and libpq it may be an address of
- * PostgreSQL, postgres://.., which several banks may share.
+ * STORE is the path of a SQLite file; or memory: and the path of a file by which a bank in memory hands over all that it
+ * has, at its end, to the next one. With -DBANK_POSTGRES, bank_postgres.c and libpq it may be an address of PostgreSQL,
+ * postgres://.., which several banks may share.
  *
  * It prints its reference, and serves until SIGTERM. A deposit with FT_REQUEST that is sent again acts once, also where
  * the process was killed meanwhile, or another one on the same database was asked first: its outcome is looked up, and
@@ -303,20 +304,17 @@ static int read_name(const unsigned char *body, size_t size, lr_place *in, char 
   return NONE;
 }
 
-/* Reads what a request asks for. The server has one object, to which every key leads: so it is judged here, since what
- * the store has of its key is answered first. Answers LR_EX_.. by which it is refused, or NONE. */
+/* Reads what a request asks for. One that would be refused is asked for too, since what the store has of its key is
+ * answered first. Answers LR_EX_.. by which it is refused, or NONE. */
 static int judge(lr_server *server, const lr_request *asked, struct job *job) {
-  char key[SIZE(KEY)], operation[16];
+  char operation[SIZE("_non_existent")];
   unsigned char body[LIMIT];
   size_t size = asked->body_size;
   lr_place in = {.at = asked->body_at, .order = asked->body_order};
-  if (lr_server_part(server, asked->ticket, LR_PART_KEY, key, sizeof key) != SIZE(KEY)) return LR_EX_OBJECT_NOT_EXIST;
-  if (memcmp(key, LR_TEXT(KEY)) != 0) return LR_EX_OBJECT_NOT_EXIST;
-  int64_t length = lr_server_part(server, asked->ticket, LR_PART_OPERATION, operation, sizeof operation);
-  if (length < 0 || length >= (int64_t)sizeof operation) return LR_EX_BAD_OPERATION;
-  operation[length] = 0;
-  if (size > sizeof body || lr_server_part(server, asked->ticket, LR_PART_BODY, body, size) < 0) return LR_EX_IMP_LIMIT;
-  if (strcmp(operation, "_non_existent") == 0 || strcmp(operation, "_is_a") == 0) {
+  if (asked->is_refused) return (int)asked->refusal;
+  if (lr_server_part(server, asked->ticket, LR_PART_OPERATION, operation, sizeof operation) < 0) return LR_EX_NO_MEMORY;
+  if (lr_server_part(server, asked->ticket, LR_PART_BODY, body, sizeof body) < 0) return LR_EX_NO_MEMORY;
+  if (operation[0] == '_') {
     uint64_t start, count;
     job->operation = IS;
     if (operation[1] == 'n') return NONE;
@@ -325,8 +323,7 @@ static int judge(lr_server *server, const lr_request *asked, struct job *job) {
                   (count == SIZE(OBJECT) && memcmp(body + start, LR_TEXT(OBJECT)) == 0);
     return NONE;
   }
-  job->operation = strcmp(operation, "deposit") == 0 ? DEPOSIT : BALANCE;
-  if (job->operation != DEPOSIT && strcmp(operation, "balance") != 0) return LR_EX_BAD_OPERATION;
+  job->operation = operation[0] == 'd' ? DEPOSIT : BALANCE;
   int refusal = read_name(body, size, &in, job->name);
   if (refusal != NONE || job->operation == BALANCE) return refusal;
   return lr_get_longlong(body, size, &in, &job->amount) == LR_OK ? NONE : LR_EX_MARSHAL;
@@ -358,11 +355,19 @@ static void perform_asked(lr_server *server, const lr_request *asked) {
 }
 
 static int64_t open_server(lr_server *server) {
+  const uint8_t text[] = {LR_TYPE_STRING}, amount[] = {LR_TYPE_LONGLONG}, both[] = {LR_TYPE_STRING, LR_TYPE_LONGLONG};
   lr_catalogue all = LR_INIT;
   uint64_t seeds[2];
   int64_t done = getentropy(seeds, sizeof seeds) == 0 ? lr_catalogue_open(&all) : LR_E_RANGE;
-  if (done == LR_OK) done = lr_catalogue_default(&all);
+  if (done == LR_OK) done = lr_catalogue_object(&all, LR_TEXT(KEY));
+  if (done == LR_OK) done = lr_catalogue_repository_ids(&all, LR_TEXT(KEY), TYPE, sizeof TYPE);
+  if (done == LR_OK) done = lr_catalogue_exception(&all, LR_TEXT(OVERDRAWN), amount, sizeof amount);
+  if (done == LR_OK)
+    done = lr_catalogue_operation(&all, LR_TEXT(KEY), LR_TEXT("deposit"), both, sizeof both, amount, 1);
+  if (done == LR_OK)
+    done = lr_catalogue_operation(&all, LR_TEXT(KEY), LR_TEXT("balance"), text, sizeof text, amount, 1);
   if (done == LR_OK) done = lr_server_open(server, &all, seeds[0], seeds[1]);
+  if (done == LR_OK) done = lr_server_set(server, LR_SET_ASK_FIRST, 1);
   if (done == LR_OK) done = lr_server_set(server, LR_SET_MESSAGE, LIMIT);
   if (done == LR_OK) done = lr_server_set(server, LR_SET_PARKED, PARKED);
   lr_close(&all);

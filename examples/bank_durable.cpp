@@ -60,7 +60,7 @@ struct Order {
   bool is_so = false;  // what `is` answers
 };
 
-/* An order, or why there is none: of which the store is asked first all the same. */
+/* An order, or why there is none. */
 using Judged = std::pair<Order, std::optional<SystemException>>;
 
 lr::Outcome outcome_of(lr::ReplyStatus status, const lr::GrowingWriter& body) {
@@ -285,29 +285,24 @@ bool is_name(std::string_view name) {
          std::all_of(name.begin(), name.end(), [](char it) { return ' ' <= it && it <= '~'; });
 }
 
-/* Reads what a request asks for. Every key leads to the one object, so it is judged here: what the store has of its key
- * is answered first. */
+/* Reads what a request asks for, whose arguments are right by their types, or why it is refused. One that would be refused
+ * is asked for too: what the store has of its key is answered first. */
 Judged judge(const lr::Asked& asked) {
-  const auto refused = [](SystemException name) { return Judged({}, name); };
+  if (const auto refusal = asked.request().refused_by()) return {{}, refusal};
   auto in = asked.arguments();
   Order order;
-  if (asked.key().text() != key_of_bank) return refused(SystemException::object_not_exist);
-  const auto operation = asked.operation();
-  const bool is_of_type = operation == "_is_a";
-  if (is_of_type || operation == "_non_existent") order.kind = Order::Kind::is;
-  else if (operation == "deposit") order.kind = Order::Kind::deposit;
-  else if (operation != "balance") return refused(SystemException::bad_operation);
-  if (operation == "_non_existent") return {order, {}};
+  if (asked.operation() == "_non_existent") return order.kind = Order::Kind::is, Judged(order, {});
   const auto text = in.get_string();
-  if (!text.ok()) return refused(SystemException::marshal);
-  order.is_so = is_of_type && (*text == type || *text == object_type);
-  if (is_of_type) return {order, {}};
-  if (!is_name(*text)) return refused(SystemException::bad_param);
+  if (asked.operation() == "_is_a") {
+    order.kind = Order::Kind::is;
+    order.is_so = *text == type || *text == object_type;
+    return {order, {}};
+  }
+  if (!is_name(*text)) return {{}, SystemException::bad_param};
   order.account = *text;
-  if (order.kind == Order::Kind::balance) return {order, {}};
-  const auto amount = in.get_longlong();
-  if (!amount.ok()) return refused(SystemException::marshal);
-  order.amount = *amount;
+  if (asked.operation() == "balance") return {order, {}};
+  order.kind = Order::Kind::deposit;
+  order.amount = *in.get_longlong();
   return {order, {}};
 }
 
@@ -323,6 +318,18 @@ lr::Result<std::optional<key>> key_of(lr::Asked& asked) {
   named.retention = request.retention_id;
   named.expiration = request.expiration;
   return std::optional<key>(named);
+}
+
+/* The one object, and its operations: also those by which an ORB asks for its type, since the store is to have what they
+ * answer too. */
+lr::Done offer(lr::Catalogue& all) {
+  constexpr const char* key = key_of_bank;
+  return all.object(key)
+      .and_then([&] { return all.operation(key, "_is_a", {LR_TYPE_STRING}, {LR_TYPE_BOOLEAN}); })
+      .and_then([&] { return all.operation(key, "_non_existent", {}, {LR_TYPE_BOOLEAN}); })
+      .and_then([&] { return all.exception(overdrawn, {LR_TYPE_LONGLONG}); })
+      .and_then([&] { return all.operation(key, "deposit", {LR_TYPE_STRING, LR_TYPE_LONGLONG}, {LR_TYPE_LONGLONG}); })
+      .and_then([&] { return all.operation(key, "balance", {LR_TYPE_STRING}, {LR_TYPE_LONGLONG}); });
 }
 
 }  // namespace
@@ -364,7 +371,8 @@ int main(int count, char** words) {
   lr::Settings settings;
   settings.message = 4096;
   settings.parked = 1024;
-  auto done = loop.catalogue().default_object();
+  settings.ask_first = true;
+  auto done = offer(loop.catalogue());
   if (done) done = loop.open(settings);
   if (!done) return std::fprintf(stderr, "bank_durable: %s\n", done.error().text()), 1;
   auto failed = loop.listen(words[2], static_cast<std::uint16_t>(std::atoi(words[3])));

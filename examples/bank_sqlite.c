@@ -1,6 +1,9 @@
 /*
  * The store of bank_store.h in a SQLite file. Who writes has the lock of the whole file, W among it. With a write-ahead
  * log and synchronous=FULL what is committed outlives a power cut.
+ *
+ * The name memory:PATH is a store in memory. It ends with its process, but for what is handed over: where it is closed
+ * it becomes the file PATH, which the next process takes over and removes.
  */
 #include "bank_store.h"
 
@@ -8,6 +11,9 @@
 #include <stdio.h>
 #include <stdlib.h>
 #include <string.h>
+#include <unistd.h>
+
+#define MEMORY "memory:"
 
 static const char tables[] =
     "BEGIN IMMEDIATE;"
@@ -19,6 +25,16 @@ static const char tables[] =
     "CREATE TABLE IF NOT EXISTS account (name TEXT PRIMARY KEY, balance INTEGER NOT NULL) WITHOUT ROWID;"
     "INSERT INTO forgotten SELECT 1, zeroblob(8) WHERE NOT EXISTS (SELECT 1 FROM forgotten);"
     "COMMIT";
+
+/* .. and all that is in them, of the file that was handed over. */
+static const char rows[] =
+    "BEGIN IMMEDIATE;"
+    "INSERT INTO outcome SELECT * FROM last.outcome;"
+    "INSERT INTO account SELECT * FROM last.account;"
+    "DELETE FROM forgotten;"
+    "INSERT INTO forgotten SELECT * FROM last.forgotten;"
+    "COMMIT;"
+    "DETACH last";
 
 enum { VERSION, BEGIN, COMMIT, ROLLBACK, LEAST, FIND, KEEP, BALANCE, SET_BALANCE, GREATEST, MARK, PURGE, STATEMENTS };
 static const char *const texts[STATEMENTS] = {
@@ -38,6 +54,8 @@ static const char *const texts[STATEMENTS] = {
 
 static sqlite3 *file;
 static sqlite3_stmt *statements[STATEMENTS];
+/* Where a store in memory is handed over, once there is one. */
+static const char *handed;
 
 static bool failed(const char *what) { return bank_failed(what, sqlite3_errmsg(file)); }
 
@@ -60,20 +78,45 @@ static int on_commit(void *nothing) {
   return 0;
 }
 
+/* Runs words that name a path in the place of %Q. */
+static bool run_with(const char *words, const char *path) {
+  char *text = sqlite3_mprintf(words, path);
+  bool is_done = text != NULL && sqlite3_exec(file, text, NULL, NULL, NULL) == SQLITE_OK;
+  sqlite3_free(text);
+  return is_done;
+}
+
+/* Takes over what the process before handed over, if it did. */
+static bool take_over(const char *path) {
+  if (access(path, F_OK) != 0) return true;
+  return run_with("ATTACH %Q AS last", path) && sqlite3_exec(file, rows, NULL, NULL, NULL) == SQLITE_OK;
+}
+
+/* Hands over, by a file that is there as a whole or not at all. */
+static void hand_over(void) {
+  char *path = sqlite3_mprintf("%s.new", handed);
+  if (path != NULL) remove(path);
+  if (path == NULL || !run_with("VACUUM INTO %Q", path) || rename(path, handed) != 0)
+    fprintf(stderr, "bank_sqlite: %s: nothing is handed over: %s\n", handed, sqlite3_errmsg(file));
+  sqlite3_free(path);
+  handed = NULL;
+}
+
 static void close_file(void) {
   for (int which = 0; which < STATEMENTS; which++) {
     sqlite3_finalize(statements[which]);
     statements[which] = NULL;
   }
+  if (handed != NULL) hand_over();
   sqlite3_close(file);
   file = NULL;
 }
 
 /* Makes the tables and the statements. */
-static bool prepare(const char *name) {
+static bool prepare(const char *name, const char *last) {
   sqlite3_busy_timeout(file, 5000);
   if (sqlite3_exec(file, "PRAGMA journal_mode=WAL; PRAGMA synchronous=FULL", NULL, NULL, NULL) != SQLITE_OK ||
-      sqlite3_exec(file, tables, NULL, NULL, NULL) != SQLITE_OK)
+      sqlite3_exec(file, tables, NULL, NULL, NULL) != SQLITE_OK || (last != NULL && !take_over(last)))
     return failed(name);
   for (int which = 0; which < STATEMENTS; which++)
     if (sqlite3_prepare_v2(file, texts[which], -1, &statements[which], NULL) != SQLITE_OK) return failed(name);
@@ -87,9 +130,13 @@ static bool prepare(const char *name) {
 }
 
 static bool open_file(const char *name) {
-  if (sqlite3_open(name, &file) == SQLITE_OK ? prepare(name) : failed(name)) return true;
-  close_file();
-  return false;
+  const char *last = strncmp(name, MEMORY, sizeof MEMORY - 1) == 0 ? name + sizeof MEMORY - 1 : NULL;
+  bool is_open = sqlite3_open(last != NULL ? ":memory:" : name, &file) == SQLITE_OK ? prepare(name, last) : failed(name);
+  if (!is_open) close_file();
+  if (!is_open || last == NULL) return is_open;
+  handed = last;
+  remove(last);
+  return true;
 }
 
 static bool begin(uint64_t *least) {

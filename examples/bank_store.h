@@ -33,7 +33,7 @@ struct outcome {
 /* A kind of database. What answers a bool answers false, and what answers an int -1, where it fails: bank_why says then
  * why, and the transaction is to be rolled back. */
 struct store {
-  bool (*open)(const char *name); /* tables that are missing are made */
+  bool (*open)(const char *name); /* tables that are missing are made; the name is lent up to `close` */
   void (*close)(void);            /* also where it is not open */
   bool (*begin)(uint64_t *least); /* a transaction, and W */
   bool (*commit)(void);           /* false: perhaps it is committed, and perhaps not */

@@ -329,12 +329,16 @@ enum {
   LR_SET_PARKED_OF = 6, /* .. of those that came on one connection: 64 */
   LR_SET_JOINED = 7,    /* who may wait for the outcome of a parked one, beside the last who came: 8 */
   LR_SET_DUE = 8,       /* octets due on a connection from which on it is fed no more: 1048576 */
-  LR_SET_CLIENT_ID = 9  /* octets of a client's id at most; who has a longer one is answered BAD_CONTEXT: 256 */
+  LR_SET_CLIENT_ID = 9, /* octets of a client's id at most; who has a longer one is answered BAD_CONTEXT: 256 */
+  LR_SET_ASK_FIRST = 10 /* 1 where you are asked before a request with FT_REQUEST is refused: 0 */
 };
 
 /* Sets a limit of a server of which no connection was opened: a number of the range above; where none is given, of 32
- * bits, and of LR_SET_DUE and LR_SET_CLIENT_ID of 64. The first of these that holds: LR_E_EMPTY, LR_E_RANGE, LR_E_OPEN
- * (a connection was opened), LR_E_MEMORY. */
+ * bits, and of LR_SET_DUE and LR_SET_CLIENT_ID of 64. With LR_SET_ASK_FIRST a request with FT_REQUEST that would be
+ * refused for its object, its operation or its arguments is asked of you all the same, unless it has expired, its
+ * client's id is too long, or its outcome is kept: so you may answer by what a store of yours has of it, and else
+ * lr_server_refuse it as it would have been. The first of these that holds: LR_E_EMPTY, LR_E_RANGE, LR_E_OPEN
+ * (a connection was opened). It takes no memory. */
 LR_API int64_t lr_server_set(lr_server *server, uint32_t what, uint64_t value);
 
 /* Opens a connection, whose number is greater than each before.
@@ -394,6 +398,8 @@ typedef struct {
   uint32_t contexts;       /* how many service contexts it has */
   uint64_t client_size;    /* of LR_PART_CLIENT */
   uint64_t expiration;
+  uint32_t is_refused;     /* 1 where it would be refused (LR_SET_ASK_FIRST): then it is raw */
+  uint32_t refusal;        /* .. and by which exception, LR_EX_.. */
 } lr_request;
 
 /* Says what waits: 1, or 0 where nothing does, and `request` is as it was. LR_E_EMPTY. */
@@ -764,7 +770,8 @@ LR_API int64_t lr_assembler_message(lr_assembler *assembler, lr_message *message
 LR_API int64_t lr_assembler_part(lr_assembler *assembler, uint32_t part, void *room, size_t size);
 
 /* Copies the data of a service context of that message, counted from 0, as much of it as the room has octets, gives
- * its id, and answers its size; to read all takes as long as by lr_server_context. LR_E_EMPTY, LR_E_NONE. */
+ * its id, and answers its size. Where one behind the first is asked for all are copied, if there is memory, so that each
+ * is found by its index; else it passes over those before it. LR_E_EMPTY, LR_E_NONE. */
 LR_API int64_t lr_assembler_context(lr_assembler *assembler, uint32_t index, uint32_t *id, void *room, size_t size);
 
 /* ---- writing messages ---- */
@@ -772,8 +779,8 @@ LR_API int64_t lr_assembler_context(lr_assembler *assembler, uint32_t index, uin
 /*
  * Each writes a whole message into the room, and answers its size. LR_E_ROOM where the room is smaller: nothing is
  * written then. LR_E_RANGE: there is no such version, order, wish or status. A CancelRequest, a LocateReply,
- * CloseConnection and MessageError take no memory: they answer nothing else. The others may answer LR_E_MEMORY, and
- * LR_E_LONG, where a message or a part of it is too long.
+ * CloseConnection and MessageError take no memory: they answer nothing else. The others may answer LR_E_LONG, where a
+ * message or a part of it is too long, and LR_E_MEMORY, where nothing else refuses them and there is room.
  */
 
 /* A Request to an object key, with at most one service context, where context_size is not 0 (its id is context_id).
@@ -816,7 +823,8 @@ LR_API int64_t lr_ior_parse(lr_ior *ior, const void *text, size_t size);
 LR_API int64_t lr_ior_iiop(lr_ior *ior, const void *type_id, size_t type_id_size, uint32_t minor,
                            const void *host, size_t host_size, uint16_t port, const void *key, size_t key_size);
 
-/* Writes its stringified form, and answers its size. It has no NUL at its end. LR_E_EMPTY, LR_E_ROOM, LR_E_MEMORY. */
+/* Writes its stringified form, and answers its size. It has no NUL at its end. LR_E_EMPTY, LR_E_ROOM, and LR_E_MEMORY
+ * where there is room. */
 LR_API int64_t lr_ior_print(lr_ior *ior, void *room, size_t size);
 
 /* Copies the repository id of its type, as much of it as the room has octets, and answers its size. LR_E_EMPTY. */

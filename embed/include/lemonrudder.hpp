@@ -569,6 +569,10 @@ enum class ContextId : std::uint32_t {
 struct Request : lr_request {
   Order byte_order() const noexcept { return Order{body_order}; }
   Wish wished() const noexcept { return Wish{wish}; }
+  /* What would refuse it (Settings::ask_first). */
+  std::optional<SystemException> refused_by() const noexcept {
+    return is_refused ? std::optional(SystemException{refusal}) : std::nullopt;
+  }
 };
 
 /* How a call ended. */
@@ -721,6 +725,7 @@ struct Settings {
   std::optional<std::uint32_t> joined = {};
   std::optional<std::uint64_t> due = {};
   std::optional<std::uint64_t> client_id = {};
+  std::optional<bool> ask_first = {};
 };
 
 /* Two random numbers, which no client can guess. */
@@ -954,7 +959,7 @@ class Server : public Slot<lr_server> {
         {LR_SET_CAPACITY, settings.capacity},   {LR_SET_SHARE, settings.share},
         {LR_SET_PARKED, settings.parked},       {LR_SET_PARKED_OF, settings.parked_of_one},
         {LR_SET_JOINED, settings.joined},       {LR_SET_DUE, settings.due},
-        {LR_SET_CLIENT_ID, settings.client_id},
+        {LR_SET_CLIENT_ID, settings.client_id}, {LR_SET_ASK_FIRST, settings.ask_first},
     };
     std::int64_t answer = LR_OK;
     for (const auto& [what, value] : all)

@@ -386,8 +386,8 @@ class Asked {
 /* Serves objects whose operations are performed by servants. */
 class Loop {
  public:
-  /* Answers a request, or takes a Later of it. What it leaves waiting is refused by TRANSIENT, so of that it must have
-   * done nothing. */
+  /* Answers a request, or takes a Later of it. What it leaves waiting is refused, by TRANSIENT or what would refuse it,
+   * so of that it must have done nothing. */
   using Servant = std::function<Done(Asked&)>;
 
   explicit Loop(LoopLimits limits = {}) : limits_(limits), waiter_(first + limits.peers), peers_(first + limits.peers) {
@@ -425,7 +425,7 @@ class Loop {
   Done raw_operation(Octets key, std::string_view name, Servant servant) {
     return catalogue_.raw_operation(key, name).transform([&] { employ(key, name, servant); });
   }
-  /* Who performs what no servant above is named for. */
+  /* Who performs what no servant above is named for, and is asked for what would be refused (Settings::ask_first). */
   void otherwise(Servant servant) { otherwise_ = std::move(servant); }
   /* The catalogue itself, for the rest. */
   Catalogue& catalogue() noexcept { return catalogue_; }
@@ -598,7 +598,7 @@ class Loop {
     if (!asked.load()) return;
     const auto object = servants_.find(asked.key().text());
     const Servant* servant = &otherwise_;
-    if (object != servants_.end()) {
+    if (object != servants_.end() && !(*request)->refused_by()) {
       const auto named = object->second.find(asked.operation());
       if (named != object->second.end()) servant = &named->second;
     }
@@ -616,8 +616,10 @@ class Loop {
       if (peer.is_held) return;
       const auto taken = server_.feed(peer.connection, moment, left_of(peer).first(step));
       perform();
-      if (const auto left = server_.asked(); left.ok() && *left)
-        static_cast<void>(server_.refuse((*left)->ticket, SystemException::transient, 0));
+      if (const auto left = server_.asked(); left.ok() && *left) {
+        const auto refusal = (*left)->refused_by().value_or(SystemException::transient);
+        static_cast<void>(server_.refuse((*left)->ticket, refusal, 0));
+      }
       // (where the connection is gone, what was answered is sent)
       peer.fed = taken ? peer.fed + *taken : peer.got;
       if ((taken && *taken == 0) || detail::LoopClock::now() > end) return;
