@@ -70,7 +70,7 @@ def ask(given, words, key, clients, kind):
         came = subprocess.run(asked, capture_output=True, text=True, check=False)
         if came.returncode != 0:
             sys.exit(f"{words[0]}, {clients} clients, {kind}: {came.stderr.strip()}")
-        counted, seconds, busy, whole = map(float, came.stdout.split())
+        counted, seconds, busy, whole, *_ = map(float, came.stdout.split())
         return counted / seconds, (processor_seconds(process.pid) - before) / whole * 1e6, busy
 
 
@@ -106,4 +106,5 @@ def main():
     print(f"load {os.getloadavg()[0]:.1f} after")
 
 
-main()
+if __name__ == "__main__":
+    main()

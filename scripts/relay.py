@@ -15,7 +15,7 @@ PROGRAM = "lemonrudder"
 REGISTRY = "/usr/share/cargo/registry"
 PACKAGES = {
     name: f"librust-{name}-dev" for name in (
-        "clap", "futures-util", "openssl", "prometheus", "rusqlite", "serde", "tokio", "tokio-openssl",
+        "clap", "futures-util", "openssl", "prometheus", "rusqlite", "serde", "socket2", "tokio", "tokio-openssl",
         "tokio-postgres", "toml", "tracing", "tracing-subscriber")
 }
 # the crates of crates.io are those of that folder

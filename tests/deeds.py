@@ -1,9 +1,10 @@
 """Plays random lists of an owner's deeds with the program `deeds_player`, and compares with a model.
 
 A list is requests for the counter, one or more in a piece, and what the owner does of each, by a seed; what is parked
-is settled, told unkept or withdrawn later, and meanwhile the counter is hidden, or taken away all the same, and offered again, and
-the ids of clients are bounded. What is parked and lost its object is settled with a system exception. The lines of a
-list are those of crates/deeds_player/src/lines.rt. All that is printed must be what the model says
+is settled, told unkept or withdrawn later, and meanwhile the counter is hidden, or taken away all the same, and offered
+again, the ids of clients are bounded, and the owner is asked first or not. What is parked and lost its object is settled
+with a system exception, and so is what would be refused, unless it is refused so, or told what its owner has kept. The lines
+of a list are those of crates/deeds_player/src/lines.rt. All that is printed must be what the model says
 (tests/engine_model.py): for each deed its connection, how it ended, and what was written; at a moment that is told,
 what is kept; and what was counted. A list that fails is printed with as few lines as are found with which it still does, as
 the program takes them. tests/embed/deeds_test.py plays these lists with a library.
@@ -84,11 +85,14 @@ class Owned(Engine):
     def __init__(self, maker):
         terms, places = maker.terms, maker.places
         super().__init__(terms, {}, places)
-        self.manners, self.is_hidden, self.longest, self.client = maker.manners, False, None, b""
+        self.manners, self.is_hidden, self.longest, self.field = maker.manners, False, None, None
+        # whether the owner is asked first, and what would refuse the request that it is asked for
+        self.is_first, self.would = False, None
         # how many of one connection may be parked, and on which each came
         self.of_one, self.origins, self.counts = maker.of_one, {}, Counter()
-        # what the owner keeps of what it told, by the keys; the keys of what is parked; and whether it told the last one
-        self.stored, self.fields, self.is_told = {}, {}, False
+        # what the owner keeps of what it told, by the keys; the keys of what is parked; and whether the engine keeps nothing of
+        # the last one
+        self.stored, self.fields, self.is_unkept = {}, {}, False
         counts = (places.parked, maker.of_one, places.joined, terms.capacity, terms.share)
         self.given = [f"engine {' '.join(map(str, counts))}"]
 
@@ -119,9 +123,11 @@ class Owned(Engine):
         self.lines.append(f"refused 0 {why}")
 
     def refusal_of(self, call):
-        if self.longest is not None and self.longest < len(self.client):
+        if self.longest is not None and self.field and self.longest < len(self.field[0]):
             return refused("BAD_CONTEXT")
-        return refused("OBJECT_NOT_EXIST") if self.is_hidden else super().refusal_of(call)
+        refusal = refused("OBJECT_NOT_EXIST") if self.is_hidden else super().refusal_of(call)
+        self.would = refusal if self.is_first and self.field else None
+        return None if self.would else refusal
 
     def live(self):
         """What is kept, or will be, of what is parked: its key, its expiration, and what came of it."""
@@ -141,16 +147,19 @@ class Owned(Engine):
         return "log_full" if self.capacity <= len(self.live()) else "share_full"
 
     def came_of(self, connection, asked):
-        self.client = asked.field[0] if asked.field else b""
+        self.field = asked.field
         self.counts[self.decision(asked)] += 1
         return super().came_of(connection, asked)
 
     def keeps(self, came):
-        return super().keeps(came) and not self.is_told
+        return not self.is_unkept
 
-    def has(self, field, call):
-        """What the owner has for a request: by its key what it kept of it, if anything."""
-        return self.stored[field] if field in self.stored else self.apply(call)
+    def has(self, field, call, would):
+        """What the owner has for a request: by its key what it kept of it, if anything; else, where something would refuse it,
+        that nothing is known."""
+        if field in self.stored:
+            return self.stored[field]
+        return GONE if would else self.apply(call)
 
     def store(self, field, outcome):
         """The owner keeps an outcome by a key."""
@@ -170,7 +179,7 @@ class Owned(Engine):
     def ask(self, connection, asked):
         """Asks for a request: what comes of it, by what the owner does."""
         number, self.asks = self.asks, self.asks + 1
-        self.asking, self.is_told = True, False
+        self.asking, self.is_unkept = True, False
         self.end_piece(connection)
         manner = self.manners[asked.request_id]
         if manner == "park":
@@ -197,6 +206,7 @@ class Owned(Engine):
         self.deed("park")
         self.counts["parked"] += 1
         self.parked[number], self.origins[number], self.fields[number] = Parked(asked.call), connection, asked.field
+        self.parked[number].would = self.would
         self.wait(connection, asked, self.parked[number])
         return self.parked[number]
 
@@ -207,14 +217,26 @@ class Owned(Engine):
         raise GivenUp
 
     def answer_asked(self, manner, connection, asked):
-        """Answers the request that waits, tells it an outcome that the engine does not keep, or declines it."""
-        is_declined, self.is_told = manner == "decline", manner == "tell"
-        outcome = NOT_NOW if is_declined else self.has(asked.field, asked.call)
-        if self.is_told:
+        """Answers the request that waits, tells it an outcome that the engine does not keep, or refuses it: by what would, if
+        anything would."""
+        is_declined, self.is_unkept = manner == "decline", manner != "answer"
+        if is_declined:
+            outcome, line = self.would or NOT_NOW, "refuse" if self.would else "decline"
+        else:
+            outcome = self.fit(manner, self.has(asked.field, asked.call, self.would))
+            line = f"{manner} {outcome_in(outcome)}"
+        if manner == "tell":
             self.store(asked.field, outcome)
-        line = manner if is_declined else f"{manner} {outcome_in(outcome)}"
         self.counts["declined" if is_declined else "answered"] += 1
         self.deed(line, f"{connection} done{self.reply_words(connection, asked, outcome)}")
+        return outcome
+
+    def fit(self, manner, outcome):
+        """An outcome for the request that waits: where something would refuse it, none that is kept is of its operation but a
+        system exception."""
+        if manner == "answer" and self.would and outcome != GONE:
+            self.refused(f"answer {outcome_in(outcome)}", "not fit")
+            return GONE
         return outcome
 
     def look(self, connection, asked):
@@ -222,7 +244,7 @@ class Owned(Engine):
         ends = [f"close {connection}", f"lost {connection}"]
         late = [line for number in list(self.parked)[:1]
                 for line in (f"settle {number} 0", f"tell_parked {number} 0", f"withdraw {number}")]
-        for line in ("hide", "drop", "bound 0", "tick 1000000", "opened 1000", *ends, *late):
+        for line in ("hide", "drop", "bound 0", "first", "last", "tick 1000000", "opened 1000", *ends, *late):
             self.while_asking(line)
         if asked.call.operation == b"get":
             self.refused("answer overflow", "not fit")
@@ -308,33 +330,45 @@ class Owned(Engine):
         parked = self.parked.get(number)
         if parked is None:
             return self.refused(f"{verb} {number}{'' if verb == 'withdraw' else ' 0'}", "not parked")
-        outcome = NOT_NOW if verb == "withdraw" else self.outcome_of(verb, number, parked)
+        if verb == "withdraw":
+            outcome, line = parked.would or NOT_NOW, f"{'refuse' if parked.would else verb} {number}"
+        else:
+            outcome = self.outcome_of(verb, number, parked)
+            line = f"{verb} {number} {outcome_in(outcome)}"
         self.counts["withdrawn" if verb == "withdraw" else "settled"] += 1
         kept = [(key, end, came) for key, end, came in self.performed if verb == "settle" or came is not parked]
         self.performed = [(key, end, outcome if came is parked else came) for key, end, came in kept]
         del self.parked[number]
         told = self.told([(c, self.reply_words(c, asked, outcome)) for c, asked in self.going(parked)])
-        return self.deed(f"{verb} {number}{'' if verb == 'withdraw' else ' ' + outcome_in(outcome)}", *told)
+        return self.deed(line, *told)
 
     def told(self, replies):
         """What is printed of what those are told who waited, each on its connection."""
         return [f"{connection} done{words}" for connection, words in replies]
 
     def outcome_of(self, verb, number, parked):
-        """The outcome of what is parked: a system exception where its object is gone, and nothing else is taken."""
+        """The outcome of what is parked: a system exception where its object is gone or it would be refused, since none other
+        is taken."""
+        field, is_gone = self.fields[number], self.is_hidden or parked.would
         if parked.call.operation == b"get":
             self.refuses(verb, f"{number} overflow")
-        if self.is_hidden:
+        if is_gone:
             self.refuses(verb, f"{number} 0")
+        if is_gone and not (self.takes_any(verb) and field in self.stored):
             return GONE
-        outcome = self.has(self.fields[number], parked.call)
+        outcome = self.has(field, parked.call, parked.would)
         if verb == "tell_parked":
-            self.store(self.fields[number], outcome)
+            self.store(field, outcome)
         return outcome
+
+    def takes_any(self, _verb):
+        """Whether any outcome is taken of what is parked."""
+        return False
 
     def refuses(self, verb, words):
         """Gives an outcome that is none of the operation's."""
-        self.refused(f"{verb} {words}", "not parked")
+        if not self.takes_any(verb):
+            self.refused(f"{verb} {words}", "not parked")
 
     def do_drop(self):
         self.give("drop")
@@ -350,6 +384,10 @@ class Owned(Engine):
     def do_bound(self, octets):
         self.give(f"bound {octets}")
         self.longest = octets
+
+    def do_first(self, is_first):
+        self.give("first" if is_first else "last")
+        self.is_first = is_first
 
     def do_tick(self, now):
         self.give(f"tick {now}")
@@ -424,6 +462,8 @@ class Maker:
         if chance < 0.84:
             return ("drop",) if dice.random() < 0.2 else ("offer", dice.random() < 0.4)
         if chance < 0.89:
+            if dice.random() < 0.5:
+                return "first", dice.random() < 0.8
             return "bound", dice.choice([0, 1, 2, 6, 255, 256, 256])
         if chance < 0.95:
             return self.opened()

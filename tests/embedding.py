@@ -1,8 +1,7 @@
 """Compiles C and C++ against liblemonrudder and runs it: the programs of tests/embed, and the examples over sockets.
 
 Each program of tests/embed is run with the archive, with the shared library, with the sanitizers for addresses and for
-undefined behaviour, and under valgrind. The banks are called by clients of tests/giop_peers.py, and the gateway stands
-before a server of it, and before one of omniORB.
+undefined behaviour, and under valgrind. The banks are called by clients of tests/giop_peers.py.
 """
 from __future__ import annotations
 
@@ -30,10 +29,9 @@ from tests import base, giop, programs
 from tests.allocations import Counting
 from tests.cdr import BIG, LITTLE, Octets
 from tests.giop import (
-    CLOSE_CONNECTION, EMPTY, MAYBE, MESSAGE_ERROR, NO, NONE, USER_EXCEPTION, YES, Reference, reference_of, reply,
-    system_exception,
+    CLOSE_CONNECTION, MAYBE, MESSAGE_ERROR, NO, USER_EXCEPTION, Reference, reference_of, reply, system_exception,
 )
-from tests.giop_peers import SECONDS, Behind, Peer, Wrong, ask, long_octets, number_body, request, until, want
+from tests.giop_peers import SECONDS, Peer, Wrong, ask, number_body, request, until, want
 from tests.programs import ROOT
 
 EMBED = os.path.join(ROOT, "tests", "embed")
@@ -532,13 +530,10 @@ def header_checks_results(kit: Kit) -> None:
 class Serving:
     """A program that prints a reference and serves until SIGTERM, and then ends well and has printed nothing else."""
 
-    def __init__(self, *words: str, given: str | None = None, env: dict[str, str] | None = None) -> None:
+    def __init__(self, *words: str, env: dict[str, str] | None = None) -> None:
         self.is_stopped = False
         self.process = subprocess.Popen(words, stdin=subprocess.PIPE, stdout=subprocess.PIPE, stderr=subprocess.PIPE,
                                         text=True, env=env)
-        if given is not None:
-            self.process.stdin.write(given + "\n")
-            self.process.stdin.flush()
         line = self.process.stdout.readline()
         if not line:
             raise Wrong(f"{words[0]} printed no reference: {self.end()}")
@@ -1148,213 +1143,16 @@ def servants_answer_in_each_way(server: str) -> None:
             for contexts in ([(7, b"seven")], []):  # (a repeat has none)
                 asks(b"desk", operation, giop.reply(1, b"\0\0\0\6", contexts=contexts), number=number)
         asks(b"desk", "_is_a", reply(1, b"\1"), b"\0\0\0\x0dIDL:Desk:1.0\0")
+        # what would be refused is asked of no servant whose arguments it has not, and left it is refused so
+        for _ in range(2):
+            asks(b"desk", "gone", reply(1, b"gone"), number=20)
+            asks(b"desk", "read", system_exception(1, "MARSHAL", NO), number=21)
+            asks(b"none", "read", system_exception(1, "OBJECT_NOT_EXIST", NO), number=22)
+            asks(b"desk", "_is_a", system_exception(1, "MARSHAL", NO), number=23)
+        asks(b"desk", "read", reply(1, b"\0\0\0\7"), b"\0\0\0\7", number=21)
         serving.is_stopped = True
         asks(b"desk", "stop", reply(1) + CLOSE_CONNECTION)
         peer.ended()
-
-
-# ---- the gateway ----
-
-@contextlib.contextmanager
-def gateway_before(gateway: str, minor: int = 2, on_input: bool = False) -> Iterator[tuple[Behind, Serving, bytes]]:
-    """A server, a gateway before it, and the key of its object."""
-    with Behind() as behind:
-        text = behind.reference(minor=minor).text()
-        words = [gateway, "127.0.0.1", "0"]
-        with Serving(*words, given=text) if on_input else Serving(*words, text) as serving:
-            yield behind, serving, behind.reference().key
-
-
-def gateway_leads_to_itself(gateway: str) -> None:
-    """It prints a reference of the same type and key, and minor version, which leads to it."""
-    for minor in (0, 1, 2):
-        for on_input in (False, True):
-            with gateway_before(gateway, minor, on_input) as (behind, serving, _):
-                want(serving.reference, behind.reference(minor=minor)._replace(port=serving.port))
-
-
-def gateway_forwards_as_it_came(gateway: str) -> None:
-    """Bodies in both orders and in each version, and none; the reply comes back in the order of the server behind."""
-    with gateway_before(gateway) as (behind, serving, key), Peer(serving.port) as peer:
-        for index, (order, body) in enumerate(((BIG, bytes(range(200))), (LITTLE, b"\1\2\3"), (LITTLE, b""))):
-            peer.tell(request(70 + index, key, "any", body, order=order, number=index))
-            peer.wants(reply(70 + index, number_body(index + 1), order=order))
-            came = behind.performed[-1]
-            want((came.order, came.key, came.operation, came.contexts, came.body), (order, key, b"any", [], body))
-            want((came.request_id, came.minor, came.place % 8), (index + 1, 2, 0) if body else (index + 1, 2, 4))
-        want(behind.connections, 1)
-    # (in 1.0 and 1.1 the body of a request with this key stands at a place divisible by 8, with FT_REQUEST or without)
-    with Behind() as behind:
-        for minor in (0, 1):
-            text = behind.reference(b"12345", minor).text()
-            with Serving(gateway, "127.0.0.1", "0", text) as serving:
-                asked = request(5, b"12345", "any", b"abc", minor=minor)
-                ask(serving.port, asked, reply(5, number_body(len(behind.performed) + 1), minor=minor))
-                want((behind.performed[-1].minor, behind.performed[-1].body), (minor, b"abc"))
-
-
-def gateway_retries_act_once(gateway: str) -> None:
-    """What acts twice when it is sent to the server acts once through the gateway; all replies are the first one."""
-    with gateway_before(gateway) as (behind, serving, key):
-        octets = request(1, key, "add", number_body(7), number=1)
-        for total in (1, 2):
-            ask(behind.port, octets, reply(1, number_body(total)))
-        with Peer(serving.port) as peer:
-            peer.tell(octets)  # (its reply is lost)
-        for request_id in (8, 9):
-            ask(serving.port, request(request_id, key, "add", number_body(7), number=1),
-                reply(request_id, number_body(3)))
-        want(len(behind.performed), 3)
-        ask(serving.port, request(1, key, "add", number_body(7), number=2), reply(1, number_body(4)))
-        ask(serving.port, request(1, key, "add", number_body(7)), reply(1, number_body(5)))
-
-
-def gateway_keeps_exceptions(gateway: str) -> None:
-    """An exception of the server behind is the outcome, also of the repeat."""
-    with gateway_before(gateway) as (behind, serving, key):
-        behind.manners = ["raises"]
-        for request_id in (1, 2):
-            ask(serving.port, request(request_id, key, "add", number=1),
-                reply(request_id, lambda out: out.string(b"IDL:Wrong:1.0"), status=USER_EXCEPTION))
-        want(len(behind.performed), 1)
-
-
-def gateway_says_maybe(gateway: str) -> None:
-    """The server behind is lost before it replies, or makes no sense: UNKNOWN, and the repeat is not sent."""
-    with gateway_before(gateway) as (behind, serving, key):
-        for number, manner in enumerate(("lost", "error", "another")):
-            behind.manners = [manner]
-            for request_id in (1, 2):
-                ask(serving.port, request(request_id, key, "add", number=number),
-                    system_exception(request_id, "UNKNOWN", MAYBE))
-            want(len(behind.performed), 2 * number + 1)
-            ask(serving.port, request(5, key, "add", number=100 + number), reply(5, number_body(2 * number + 2)))
-
-
-def gateway_refuses_what_was_not_begun(gateway: str) -> None:
-    """The server behind says goodbye, or is not there: TRANSIENT, of which nothing is kept: the repeat is forwarded."""
-    with gateway_before(gateway) as (behind, serving, key):
-        behind.manners = ["closes"]
-        ask(serving.port, request(1, key, "add", number=1), system_exception(1, "TRANSIENT", NO))
-        ask(serving.port, request(2, key, "add", number=1), reply(2, number_body(1)))
-        behind.manners = ["closes"]
-        ask(serving.port, request(3, key, "add"), system_exception(3, "TRANSIENT", NO))
-        behind.hush()
-        ask(serving.port, request(4, key, "add", number=2), system_exception(4, "TRANSIENT", NO))
-        ask(serving.port, request(5, key, "add"), system_exception(5, "TRANSIENT", NO))
-        ask(serving.port, request(6, key, "add", number=1), reply(6, number_body(1)))
-
-
-def gateway_comes_back(gateway: str) -> None:
-    """The server behind closes an idle connection, with CloseConnection or without; the next request opens another."""
-    with gateway_before(gateway) as (behind, serving, key), Peer(serving.port) as peer:
-        behind.manners = ["returns and closes", "returns"]
-        for index in (1, 2):
-            peer.tell(request(index, key, "add", number=index))
-            peer.wants(reply(index, number_body(index)))
-        want(behind.connections, 2)
-        behind.peer.shutdown(socket.SHUT_RDWR)
-        peer.tell(request(3, key, "add", number=3))
-        peer.wants(reply(3, number_body(3)))
-        want(behind.connections, 3)
-
-
-def gateway_refuses_what_it_cannot(gateway: str) -> None:
-    """Bodies that stand elsewhere, and a server behind that leads past the gateway: IMP_LIMIT, which is kept."""
-    with gateway_before(gateway, minor=1) as (behind, serving, key):
-        asked = request(1, key, "operation", lambda out: out.ulong(7), minor=0)
-        want((len(asked) - 4) % 8, 4)
-        ask(serving.port, asked, system_exception(1, "IMP_LIMIT", NO, minor=0))
-        want(len(behind.performed), 0)
-        behind.manners = ["stands elsewhere", "forwards"]
-        for number, completed in ((1, YES), (2, NO)):
-            for request_id in (1, 2):
-                ask(serving.port, request(request_id, key, "add", number=number),
-                    system_exception(request_id, "IMP_LIMIT", completed))
-            want(len(behind.performed), number)
-        ask(serving.port, request(1, key, "x" * 300), system_exception(1, "IMP_LIMIT", NO))
-
-
-def gateway_takes_long_replies(gateway: str) -> None:
-    """A reply of 300,000 octets in fragments, and its repeat."""
-    with gateway_before(gateway) as (behind, serving, key):
-        behind.manners = ["long"]
-        for request_id in (1, 2):
-            ask(serving.port, request(request_id, key, "add", number=1), reply(request_id, long_octets()))
-        want(len(behind.performed), 1)
-
-
-def gateway_forwards_without_a_reply(gateway: str) -> None:
-    """A request that wants no reply, and one that wants an empty one."""
-    with gateway_before(gateway) as (behind, serving, key), Peer(serving.port) as peer:
-        peer.tell(request(1, key, "tell", wish=NONE, number=1) + request(2, key, "tell", wish=EMPTY, number=2))
-        peer.wants(reply(2))
-        peer.tell(request(3, key, "tell", wish=NONE, number=1) + request(4, key, "tell", number=2))
-        peer.wants(reply(4, number_body(2)))
-        want([came.wish for came in behind.performed], [NONE, 3])
-
-
-def gateway_forwards_one_at_a_time(gateway: str) -> None:
-    """Requests of many clients that come while one waits are answered after it; each acts once."""
-    with gateway_before(gateway) as (behind, serving, key), contextlib.ExitStack() as stack:
-        behind.manners = ["waits"]
-        peers = [stack.enter_context(Peer(serving.port)) for _ in range(30)]
-        peers[0].tell(request(0, key, "add", number=0))
-        until(lambda: len(behind.performed) == 1, "the first request has not come")
-        for index, peer in enumerate(peers[1:]):
-            peer.tell(request(index, key, "add", number=index % 10), 7)
-        behind.may_go_on.set()
-        peers[0].wants(reply(0, number_body(1)))
-        told = {}
-        for index, peer in enumerate(peers[1:]):
-            got = peer.received(len(reply(index, number_body(1))))
-            want(got[:-8], reply(index, number_body(1))[:-8])
-            want(got, reply(index, number_body(told.setdefault(index % 10, got[-1]))))
-        want(len(behind.performed), 10)
-        want(sorted(told.values()), list(range(1, 11)))
-
-
-def gateway_wants_a_reference(gateway: str) -> None:
-    """Words that are no reference, or none of IIOP."""
-    for words in (["IOR:00"], ["nothing"], [""], ["IOR:000000000000000100000000" + "00000000"]):
-        ran = subprocess.run([gateway, "127.0.0.1", "0", *words], capture_output=True, text=True, timeout=SECONDS)
-        if ran.returncode != 1 or not ran.stderr.startswith("gateway: ") or ran.stdout:
-            raise Wrong(f"{words}: status {ran.returncode}, printed {ran.stdout!r} {ran.stderr!r}")
-    ran = subprocess.run([gateway, "127.0.0.1", "0"], input="", capture_output=True, text=True, timeout=SECONDS)
-    want((ran.returncode, ran.stdout), (1, ""))
-
-
-# ---- omniORB ----
-
-@contextlib.contextmanager
-def omniorb(kit: Kit) -> Iterator[tuple[str, str]]:
-    """A server of the counter and a client for it, compiled."""
-    idl = os.path.join(EXAMPLES, "counter.idl")
-    run(programs.tool("omniidl"), "-bcxx", f"-C{kit.work}", idl)
-    libraries = ["-lomniORB4", "-lomnithread"]
-    made = []
-    for name, source in (("omni_server", os.path.join(EMBED, "omniorb_server.cc")),
-                         ("omni_client", os.path.join(EXAMPLES, "omniorb_client.cc"))):
-        program = os.path.join(kit.work, name)
-        run("g++", "-w", f"-I{kit.work}", source, os.path.join(kit.work, "counterSK.cc"), *libraries, "-o", program)
-        made.append(program)
-    yield made[0], made[1]
-
-
-def omniorb_calls(client: str, reference: str, number: int, *more: str) -> str:
-    """What a client prints that calls add(7) and then get(), in a process of its own."""
-    return run(client, reference, "A", str(number), "-ORBmaxGIOPConnectionPerServer", "1", *more, seconds=SECONDS)
-
-
-def omniorb_acts_once_through_the_gateway(kit: Kit, gateway: str) -> None:
-    """A call that is sent again in another process acts twice on omniORB, and once through the gateway."""
-    with omniorb(kit) as (server, client), Serving(server, "-ORBendPoint", "giop:tcp:127.0.0.1:") as behind:
-        want([omniorb_calls(client, behind.text, 1) for _ in range(2)], ["add 7\nget 7\n", "add 14\nget 14\n"])
-        with Serving(gateway, "127.0.0.1", "0", behind.text) as serving:
-            want(serving.reference.type_id, behind.reference.type_id)
-            want([omniorb_calls(client, serving.text, 1) for _ in range(3)], ["add 21\nget 21\n"] * 3)
-            want([omniorb_calls(client, serving.text, 2) for _ in range(2)], ["add 28\nget 28\n"] * 2)
-            want(omniorb_calls(client, serving.text, 3, "-ORBmaxGIOPVersion", "1.1"), "add 35\nget 35\n")
 
 
 # ---- all of it ----
@@ -1378,10 +1176,6 @@ POLLS = [bank_serves_a_hundred, bank_serves_beside_one_that_reads_nothing, bank_
 IDLE_BANKS = [bank_tells_idle_peers_goodbye, bank_drops_peers_that_take_nothing]
 FAIR_BANKS = [bank_is_fair]
 LONGS = [long_replies_are_bounded]
-GATEWAYS = [gateway_leads_to_itself, gateway_forwards_as_it_came, gateway_retries_act_once, gateway_keeps_exceptions,
-            gateway_says_maybe, gateway_refuses_what_was_not_begun, gateway_comes_back,
-            gateway_refuses_what_it_cannot, gateway_takes_long_replies, gateway_forwards_without_a_reply,
-            gateway_forwards_one_at_a_time, gateway_wants_a_reference]
 LIBRARY = [headers_stand_alone, declarations_can_be_marked, slots_are_closed_by_kind, texts_are_literals,
            programs_link, two_archives_link, names_are_exported, shared_library_says_how_it_is_loaded, heap_is_for_threads, packages_are_found,
            packages_are_found_by_cmake, cmake_takes_versions_by_the_rule, packages_are_made_below_a_root,
@@ -1671,15 +1465,3 @@ class ServantsCpp(Example, unittest.TestCase):
     """A server in C++ whose servants answer in each way."""
 
     NAME, SOURCES, FLAGS = "servants_cpp", ["../tests/embed/servants.cpp"], ["-pthread"]
-
-
-@of_functions(GATEWAYS)
-class Gateway(Example, unittest.TestCase):
-    """The gateway."""
-
-    NAME, SOURCES = "gateway", ["gateway/gateway.c", "loop.c"]
-
-    @programs.needs("g++", "omniidl")
-    def test_omniorb_acts_once(self) -> None:
-        """A call that is sent again in another process acts twice on omniORB, and once through the gateway."""
-        omniorb_acts_once_through_the_gateway(the_kit(), self.subject)

@@ -16,8 +16,8 @@ PROMISES = "docs/PROMISES.md"
 INTEROP = "docs/INTEROP.md"
 EMBEDDING = "docs/EMBEDDING.md"
 RUST = "bindings/rust/README.md"
-# (which shows the banks in each language)
-DURABLE = "docs/DURABLE.md"
+# (which show banks in each language)
+BANKS = ("docs/DURABLE.md", "docs/IDL.md")
 HEADLINE = (
     "for every list of connections opened, pieces, losses, closes and moments, the servant's state is that of "
     "performing each distinct admissible request once, in order of first arrival; every unexpired repeat gets its "
@@ -77,7 +77,7 @@ class Code(unittest.TestCase):
     """Blocks of Rattle, of definitions and of contracts."""
 
     def quoting(self) -> list[tuple[str, str]]:
-        pages = [name for name in by_hand() if name not in (*SHOWING, DURABLE)]
+        pages = [name for name in by_hand() if name not in (*SHOWING, *BANKS)]
         return [(name, block) for name in pages for _, block in blocks_of(name, "rust", "antt")]
 
     def test_each_block_is_made(self):

@@ -25,15 +25,17 @@ from tests import base, programs
 
 # what is about the programs of `rt ci`, and about the library for C
 OF_PROGRAMS = [
-    "tests.cases", "tests.rows", "tests.readings", "tests.inputs", "tests.made_pages", "tests.trace", "tests.serve",
-    "tests.schedules", "tests.engine", "tests.deeds", "tests.compare_server", "tests.echo",
+    "tests.cases", "tests.rows", "tests.readings", "tests.inputs", "tests.made_pages", "tests.trace", "tests.captures",
+    "tests.serve", "tests.schedules", "tests.engine", "tests.deeds", "tests.compare_server", "tests.echo",
     "tests.bounded_allocations", "tests.refused_allocations",
 ]
 OF_LIBRARY = [
     "tests.embedding", "tests.embed.deeds_test", "tests.embed.first_programs", "tests.embed.python_test",
     "tests.embed.store_test", "tests.embed.durable_test", "tests.embed.rust_test",
     "tests.relay.guard_test", "tests.relay.retry_test", "tests.relay.orbs_test", "tests.relay.hostile_test",
-    "tests.embed.idl_test", "tests.embed.packages_test", "tests.relay.store_test",
+    "tests.relay.operation_test", "tests.relay.guards_test",
+    "tests.embed.idl_test", "tests.embed.idl_c_test", "tests.embed.idl_rust_test", "tests.embed.packages_test",
+    "tests.relay.store_test",
 ]
 
 

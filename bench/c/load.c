@@ -2,16 +2,17 @@
  * Clients that call add(7) of a counter as fast as its replies come, each with one request outstanding, or deposit 7
  * with a bank (examples/bank.idl), each into an account of its own:
  *
- *     load PORT KEY CLIENTS THREADS MILLISECONDS plain|keyed|deposits[:SECONDS]
+ *     load PORT KEY CLIENTS THREADS MILLISECONDS plain|keyed[:SECONDS]|deposits[:SECONDS]
  *
  * PORT is one of 127.0.0.1, KEY the object key in hexadecimal digits. The requests are of GIOP 1.2 in big order; those
  * of `keyed` have FT_REQUEST, a client id for each connection, and numbers that rise, which expire a second after they
- * are sent, those of `deposits` a minute, or so many. Each thread has its share of the connections, over poll(). A
+ * are sent, or so many, those of `deposits` a minute, or so many. Each thread has its share of the connections, over poll(). A
  * fifth of the time again passes before it counts.
  *
  * It prints how many replies came in that time, how many seconds it was, the part of it for which its threads
- * were busy, and how many replies came in all. Each reply has to be one without an exception, and the greatest result
- * has to be 7 times as many as came; that of a deposit 7 times as many as its client made.
+ * were busy, how many replies came in all, and how many microseconds those that came in that time took: half of them at
+ * most the first number, 99 of 100 at most the second. Each reply has to be one without an exception, and the greatest
+ * result has to be 7 times as many as came; that of a deposit 7 times as many as its client made.
  */
 #define _DEFAULT_SOURCE
 #include <arpa/inet.h>
@@ -19,6 +20,7 @@
 #include <netinet/tcp.h>
 #include <poll.h>
 #include <pthread.h>
+#include <stdatomic.h>
 #include <stdbool.h>
 #include <stdint.h>
 #include <stdio.h>
@@ -28,7 +30,7 @@
 #include <time.h>
 #include <unistd.h>
 
-enum { MOST_CLIENTS = 1024, MOST_THREADS = 64, ROOM = 256, SECOND = 10000000 };
+enum { MOST_CLIENTS = 1024, MOST_THREADS = 64, ROOM = 256, SECOND = 10000000, MOST_TIMES = 1 << 23 };
 
 /* So many units of 100 ns lie between 15 October 1582 and 1970. */
 #define FIRST_OF_1970 122192928000000000u
@@ -38,6 +40,7 @@ struct client {
   size_t size, came;
   size_t number_at, expiration_at; /* where FT_REQUEST has them, or 0 */
   uint32_t calls;
+  double asked; /* when the last one was */
 };
 
 struct thread {
@@ -50,6 +53,8 @@ struct thread {
 
 static struct client clients[MOST_CLIENTS];
 static struct pollfd polls[MOST_CLIENTS];
+static uint32_t times[MOST_TIMES]; /* what counted replies took, in 100 ns */
+static atomic_uint times_count;
 static bool are_deposits;
 static uint64_t lasting = 1; /* seconds */
 static double begin, end;
@@ -119,6 +124,7 @@ static void make_request(struct client *client, int index, const unsigned char *
 
 /* Sends the next request of a client. */
 static void ask(int fd, struct client *client) {
+  client->asked = seconds(CLOCK_MONOTONIC);
   put(client->request + 12, ++client->calls, 4);
   if (client->number_at > 0) {
     double now = seconds(CLOCK_REALTIME);
@@ -150,8 +156,15 @@ static int64_t take(int fd, struct client *client) {
 
 /* ---- the clients ---- */
 
+/* Notes how long a reply took. */
+static void note(const struct client *client) {
+  unsigned index = atomic_fetch_add(&times_count, 1);
+  if (index >= MOST_TIMES) fail("more replies came than times have room");
+  times[index] = (uint32_t)((seconds(CLOCK_MONOTONIC) - client->asked) * SECOND);
+}
+
 /* Takes the replies that are there, and sends the next requests, or none at the end. Answers how many replies came. */
-static int turn(struct thread *thread, bool asks) {
+static int turn(struct thread *thread, bool counts, bool asks) {
   int replies = 0;
   for (int index = thread->first; index < thread->first + thread->count; index++) {
     if (polls[index].revents == 0) continue;
@@ -160,6 +173,7 @@ static int turn(struct thread *thread, bool asks) {
     if (result > thread->greatest) thread->greatest = result;
     if (are_deposits && result != 7 * (int64_t)clients[index].calls) fail("a deposit did not act once");
     replies++;
+    if (counts) note(&clients[index]);
     polls[index].events = asks ? POLLIN : 0;
     if (asks) ask(polls[index].fd, &clients[index]);
   }
@@ -176,7 +190,7 @@ static void *run(void *it) {
     double now = seconds(CLOCK_MONOTONIC);
     bool counts = now >= begin && now < end;
     if (counts && busy_at_begin < 0) busy_at_begin = seconds(CLOCK_THREAD_CPUTIME_ID);
-    int replies = turn(thread, now < end);
+    int replies = turn(thread, counts, now < end);
     thread->all += (uint64_t)replies;
     if (counts) thread->counted += (uint64_t)replies;
     if (counts) thread->busy = seconds(CLOCK_THREAD_CPUTIME_ID) - busy_at_begin;
@@ -204,19 +218,32 @@ static int connect_all(char **words) {
     if (sscanf(words[2] + 2 * index, "%2x", &octet) != 1) fail("the key is no hexadecimal digits");
     key[index] = (unsigned char)octet;
   }
+  bool are_keyed = strncmp(words[6], "keyed", 5) == 0;
+  const char *colon = strchr(words[6], ':');
   are_deposits = strncmp(words[6], "deposits", 8) == 0;
-  if (are_deposits) lasting = words[6][8] == ':' ? strtoul(words[6] + 9, NULL, 10) : 60;
+  if (are_deposits) lasting = 60;
+  if (colon != NULL) lasting = strtoul(colon + 1, NULL, 10);
   for (int index = 0; index < count; index++) {
-    make_request(&clients[index], index, key, size, are_deposits || strcmp(words[6], "keyed") == 0);
+    make_request(&clients[index], index, key, size, are_deposits || are_keyed);
     polls[index] = (struct pollfd){connect_to((uint16_t)atoi(words[1])), POLLIN, 0};
   }
   return count;
 }
 
+static int compare(const void *one, const void *other) {
+  uint32_t a = *(const uint32_t *)one, b = *(const uint32_t *)other;
+  return (a > b) - (a < b);
+}
+
+/* How many microseconds so many of 100 counted replies took at the most. */
+static double time_of(unsigned part) {
+  return times_count == 0 ? 0 : times[(uint64_t)(times_count - 1) * part / 100] / 10.0;
+}
+
 int main(int words_count, char **words) {
   static struct thread threads[MOST_THREADS];
   struct thread sum = {0};
-  if (words_count != 7) fail("load PORT KEY CLIENTS THREADS MILLISECONDS plain|keyed|deposits[:SECONDS]");
+  if (words_count != 7) fail("load PORT KEY CLIENTS THREADS MILLISECONDS plain|keyed[:SECONDS]|deposits[:SECONDS]");
   int count = connect_all(words), of_threads = atoi(words[4]);
   if (of_threads < 1 || of_threads > MOST_THREADS || of_threads > count) fail("a thread for each client are the most");
   double length = atof(words[5]) / 1000;
@@ -237,7 +264,8 @@ int main(int words_count, char **words) {
     if (threads[index].greatest > sum.greatest) sum.greatest = threads[index].greatest;
   }
   if (!are_deposits && sum.greatest != 7 * (int64_t)sum.all) fail("not each request acted once");
-  printf("%llu %.6f %.3f %llu\n", (unsigned long long)sum.counted, length, sum.busy / length / of_threads,
-         (unsigned long long)sum.all);
+  qsort(times, times_count, sizeof *times, compare);
+  printf("%llu %.6f %.3f %llu %.1f %.1f\n", (unsigned long long)sum.counted, length, sum.busy / length / of_threads,
+         (unsigned long long)sum.all, time_of(50), time_of(99));
   return 0;
 }

@@ -379,12 +379,14 @@ static void limits_are_refused(void) {
   SETS(lr_server_set, &server, LR_SET_PARTIALS, partials);
   for (uint32_t what = LR_SET_CAPACITY; what <= LR_SET_JOINED; what++) SETS(lr_server_set, &server, what, counts);
   for (uint32_t what = LR_SET_DUE; what <= LR_SET_CLIENT_ID; what++) WANT(lr_server_set(&server, what, 1000), LR_OK);
+  SETS(lr_server_set, &server, LR_SET_ASK_FIRST, truths);
   WANT(lr_server_set(&server, 0, 1), LR_E_RANGE);
-  WANT(lr_server_set(&server, LR_SET_CLIENT_ID + 1, 1), LR_E_RANGE);
+  WANT(lr_server_set(&server, LR_SET_ASK_FIRST + 1, 1), LR_E_RANGE);
   WANT(lr_server_set(&server, UINT32_MAX, 1), LR_E_RANGE);
   server_works(&server, 1);
   for (uint32_t what = LR_SET_MESSAGE; what <= LR_SET_CLIENT_ID; what++)
     WANT(lr_server_set(&server, what, what == LR_SET_PARTIALS ? 4 : 4096), LR_E_OPEN);
+  WANT(lr_server_set(&server, LR_SET_ASK_FIRST, 0), LR_E_OPEN);
   WANT(lr_server_lost(&server, 1), LR_OK);
   WANT(lr_server_set(&server, LR_SET_DUE, 1000), LR_E_OPEN);
   server_works(&server, 2);

@@ -122,7 +122,7 @@ lr::Result<lr::Server> open_server() {
   settings.parked_of_one = 2;
   auto server = lr::Server::open(*catalogue, {1, 2}, settings);
   CHECK(server && !catalogue->is_open());
-  CHECK(server && server->set(LR_SET_DUE, 1 << 16) && server->set(LR_SET_DUE + 2, 1).error() == LR_E_RANGE);
+  CHECK(server && server->set(LR_SET_DUE, 1 << 16) && server->set(LR_SET_DUE + 3, 1).error() == LR_E_RANGE);
   return server;
 }
 
@@ -323,12 +323,12 @@ void requests_are_answered() {
 }
 
 /* Writes a request of a client's number, which adds 5. */
-Vector request_of(std::uint32_t request_id, std::int32_t number) {
+Vector request_of(std::uint32_t request_id, std::int32_t number, const char* operation = "add") {
   std::array<std::uint8_t, 64> ft;
   Vector octets(256);
   const auto context = lr::write_ft(ft, lr::Order::big, "A", number, later);
   const auto size =
-      lr::write_request(octets, {2, lr::Order::big, request_id}, lr::Wish::full, "c", "add", lr::Octets("\0\0\0\5", 4),
+      lr::write_request(octets, {2, lr::Order::big, request_id}, lr::Wish::full, "c", operation, "\0\0\0\5"_o,
                         {LR_CONTEXT_FT_REQUEST, lr::Octets(ft).first(context.value_or(0))});
   CHECK(context && size);
   octets.resize(size.value_or(0));
@@ -786,6 +786,33 @@ void moments_are_counted() {
 
 }  // namespace
 
+/* One that would be refused is asked for first, and answered by what is stored, or refused so. */
+void refused_ones_are_asked_first() {
+  auto catalogue = lr::Catalogue::open();
+  lr::Settings settings;
+  settings.ask_first = true;
+  if (!catalogue || !catalogue->object("c") || !catalogue->operation("c", "add", {LR_TYPE_LONG}, {LR_TYPE_LONG}))
+    return CHECK(false);
+  auto server = lr::Server::open(*catalogue, {1, 2}, settings);
+  if (!server || !server->connect(1)) return CHECK(false);
+  const lr::Outcome stored{lr::ReplyStatus::no_exception, lr::Order::big, {0, 0, 0, 6}};
+  const std::pair<const char*, std::optional<lr::SystemException>> others[] = {
+      {"add", {}}, {"gone", lr::SystemException::bad_operation}};
+  std::uint32_t id = 0;
+  for (const auto& [operation, refusal] : others) {
+    for (const bool is_stored : {true, false}) {
+      CHECK(server->feed(1, now, request_of(++id, 1, operation)));
+      const auto asked = server->asked().value_or(std::nullopt);
+      if (!asked) return CHECK(false);
+      CHECK(asked->refused_by() == refusal && (asked->is_raw != 0) == refusal.has_value());
+      const auto name = asked->refused_by().value_or(lr::SystemException::transient);
+      CHECK(is_stored ? server->answer_unkept(asked->ticket, stored) : server->refuse(asked->ticket, name, 0));
+      const auto due = due_of(*server, std::uint64_t{1});
+      CHECK(due.size() >= 28 && due[19] == (is_stored ? LR_REPLY_NO_EXCEPTION : LR_REPLY_SYSTEM_EXCEPTION));
+    }
+  }
+}
+
 int main() {
   CHECK(lr_set_heap(allocate, reallocate, std::free) == LR_OK);
   objects_move();
@@ -794,6 +821,7 @@ int main() {
   a_raw_call_goes_on();
   a_body_is_as_it_came();
   unkept_outcomes_are_asked_again();
+  refused_ones_are_asked_first();
   outcomes_are_stored();
   replies_have_contexts();
   requests_are_answered();

@@ -4,7 +4,7 @@
  * but for these, where the header has no such thing, or has more:
  *
  * - `park` that is refused: `unparked`; LR_E_PARKS does not say which places are taken.
- * - `bound N` is a limit of the server: once a connection was opened it prints `too late`.
+ * - `bound N`, `first` and `last` are limits of the server: once a connection was opened each prints `too late`.
  * - There is no `heard` and no `ending`: the header tells neither.
  * - What is told of a parked request is printed by the numbers of the connections, and on each as it is due.
  * - `close` is not refused where somebody waits there for a parked request: it prints how many `waits`, and CloseConnection
@@ -37,6 +37,8 @@ static char deeds[DEEDS][LINE];
 static size_t deed_count;
 /* the tickets of what was asked for, in order: their places are the numbers of requests */
 static uint64_t tickets[ASKS];
+/* .. and by what they are refused: by what would refuse them, else by TRANSIENT */
+static uint32_t refusals[ASKS];
 static size_t ask_count;
 /* the connections that were opened */
 static uint64_t connections[CONNECTIONS];
@@ -360,10 +362,11 @@ static struct ended do_close(uint64_t connection) {
 
 /* Notes the ticket of what was asked for. */
 static void note_ask(void) {
-  uint64_t ticket = waiting().ticket;
-  if (ticket == 0) return;
+  lr_request asked = waiting();
+  if (asked.ticket == 0) return;
   if (ask_count == ASKS) stop("too many are asked for");
-  tickets[ask_count++] = ticket;
+  refusals[ask_count] = asked.is_refused ? asked.refusal : LR_EX_TRANSIENT;
+  tickets[ask_count++] = asked.ticket;
 }
 
 static struct ended do_piece(uint64_t connection, uint64_t moment, const struct piece *piece) {
@@ -422,6 +425,15 @@ static int64_t hand_in_unkept(uint64_t ticket, const char *outcome) {
   return lr_server_answer_unkept(&server, ticket, status, body.order, body.all, body.size);
 }
 
+/* Refuses what was asked for, by what would refuse it, else by TRANSIENT. */
+static int64_t refuse(uint64_t ticket, const char *outcome) {
+  (void)outcome;
+  uint32_t name = LR_EX_TRANSIENT;
+  for (size_t index = 0; index < ask_count; index++)
+    if (tickets[index] == ticket) name = refusals[index];
+  return lr_server_refuse(&server, ticket, name, 0);
+}
+
 static struct ended do_answer(const char *outcome, bool is_kept) {
   lr_request asked = waiting();
   int64_t answer = is_kept ? hand_in(asked.ticket, outcome) : hand_in_unkept(asked.ticket, outcome);
@@ -434,7 +446,7 @@ static struct ended do_answer(const char *outcome, bool is_kept) {
 
 static struct ended do_decline(void) {
   lr_request asked = waiting();
-  int64_t answer = lr_server_refuse(&server, asked.ticket, LR_EX_TRANSIENT, 0);
+  int64_t answer = refuse(asked.ticket, NULL);
   if (asked.ticket == 0 && answer == LR_E_TICKET) return refused_by("nothing asked");
   if (answer != LR_OK) return refused(answer);
   print_entry(asked.connection, "done");
@@ -462,11 +474,6 @@ static struct ended do_give_up(bool is_goodbye) {
   return done;
 }
 
-static int64_t refuse(uint64_t ticket, const char *outcome) {
-  (void)outcome;
-  return lr_server_refuse(&server, ticket, LR_EX_TRANSIENT, 0);
-}
-
 /* A parked request is answered, kept or not, or refused. What waits is none: that is not tried. It is one
  * refusal where nothing is parked under a number, and where the outcome is not fit: the error must be the one of these
  * that it is. */
@@ -489,14 +496,14 @@ static struct ended do_deed(char *words) {
   if (strcmp(name, "lost") == 0) return do_lost(number(words));
   if (strcmp(name, "answer") == 0) return do_answer(words, true);
   if (strcmp(name, "tell") == 0) return do_answer(words, false);
-  if (strcmp(name, "decline") == 0) return do_decline();
+  if (strcmp(name, "decline") == 0 || (strcmp(name, "refuse") == 0 && *words == '\0')) return do_decline();
   if (strcmp(name, "park") == 0) return do_park();
   if (strcmp(name, "give_up") == 0) return do_give_up(false);
   if (strcmp(name, "goodbye") == 0) return do_give_up(true);
   uint64_t asked = number(parted(&words, ' '));
   if (strcmp(name, "settle") == 0) return do_late(asked, hand_in, words);
   if (strcmp(name, "tell_parked") == 0) return do_late(asked, hand_in_unkept, words);
-  if (strcmp(name, "withdraw") != 0) stop(name);
+  if (strcmp(name, "withdraw") != 0 && strcmp(name, "refuse") != 0) stop(name);
   return do_late(asked, refuse, words);
 }
 
@@ -686,6 +693,8 @@ static void take_line(char *line) {
     play();
   else if (strcmp(name, "bound") == 0)
     set_limit(LR_SET_CLIENT_ID, number(words));
+  else if (strcmp(name, "first") == 0 || strcmp(name, "last") == 0)
+    set_limit(LR_SET_ASK_FIRST, name[0] == 'f');
   else if (strcmp(name, "due") == 0)
     set_limit(LR_SET_DUE, number(words));
   else if (strcmp(name, "tick") == 0)

@@ -6,7 +6,7 @@ has no such thing, or another:
 
 - An error says that there is no place to park a request, and not which places are taken.
 - The greatest length of a client's id is set before the first connection is opened: afterwards `bound` is too late,
-  also while a request waits. Rows in which it changes later are left out.
+  also while a request waits. So is whether the owner is asked first. Rows in which either changes later are left out.
 - What is told unkept is handed in as octets, which fit each operation: no outcome is refused.
 - Goodbye is not refused on a connection where somebody waits, but said behind the replies: rows in which it is refused
   are left out.
@@ -61,7 +61,9 @@ class Maker(deeds.Maker):
     def made(self) -> list[tuple]:
         longest = self.dice.choice([0, 2, 6, 255, *[LONGEST] * 20])
         due = self.dice.choice([1, 32, 33, 100, DUE, DUE])
-        self.steps = [("bound", longest), ("due", due), *super().made(), ("parked",), ("connections",), ("flow",)]
+        first = self.dice.random() < 0.5
+        self.steps = [("bound", longest), ("due", due), ("first", first), *super().made(), ("parked",),
+                      ("connections",), ("flow",)]
         return self.steps
 
 
@@ -161,6 +163,8 @@ class Embedded(deeds.Owned):
     def while_asking(self, line: str) -> None:
         if line.startswith("bound"):
             return self.do_bound(int(line.split()[1]))
+        if line in ("first", "last"):
+            return self.do_first(line == "first")
         return super().while_asking(line)
 
     def give_up(self, manner: str, connection: int, asked: Asked) -> str:
@@ -174,9 +178,8 @@ class Embedded(deeds.Owned):
         self.counts["given_up"] += 1
         raise GivenUp
 
-    def refuses(self, verb: str, words: str) -> None:
-        if verb != "tell_parked":
-            super().refuses(verb, words)
+    def takes_any(self, verb: str) -> bool:
+        return verb == "tell_parked"
 
     def is_late(self, line: str) -> bool:
         """Gives a line that sets a limit, and says whether a connection was opened."""
@@ -187,6 +190,10 @@ class Embedded(deeds.Owned):
     def do_bound(self, octets: int) -> None:
         if not self.is_late(f"bound {octets}"):
             self.longest = octets
+
+    def do_first(self, is_first: bool) -> None:
+        if not self.is_late("first" if is_first else "last"):
+            self.is_first = is_first
 
     def do_due(self, octets: int) -> None:
         if not self.is_late(f"due {octets}"):
@@ -215,9 +222,9 @@ def blocks(name: str) -> list[list[str]]:
 
 
 def is_bounded_late(given: list[str]) -> bool:
-    """Whether the greatest length of a client's id changes once a connection was opened."""
+    """Whether the greatest length of a client's id, or whether the owner is asked first, changes late."""
     words = [line.split(" ")[0] for line in given]
-    return "bound" in words and "opened" in words[:words.index("bound")]
+    return any(word in ("bound", "first") and "opened" in words[:at] for at, word in enumerate(words))
 
 
 def is_refused_goodbye(printed: list[str]) -> bool:

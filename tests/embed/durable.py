@@ -389,6 +389,17 @@ async def balance_of(port: int, account: str) -> int:
         await client.close()
 
 
+def located(port: int, key: bytes) -> lr.LocateStatus:
+    """What a LocateRequest of a key is answered."""
+    octets = b""
+    with socket.create_connection(("127.0.0.1", port)) as peer:
+        peer.sendall(lr.write_locate_request(1, key))
+        while len(octets) < 20:
+            octets += peer.recv(20 - len(octets)) or b"\xff" * 20
+    # (CORBA 3.3 Part 2, 9.4.1 and 9.4.6: the message's order, and the status behind the request id)
+    return lr.LocateStatus(int.from_bytes(octets[16:20], "little" if octets[6] & 1 else "big"))
+
+
 async def judge(callers: list[Caller], ports: list[int]) -> int:
     """Sends each call again at each port, and looks at the accounts. Answers how many calls there were."""
     for caller in callers:

@@ -16,7 +16,8 @@ from concurrent.futures import ThreadPoolExecutor
 
 from tests import base
 from tests.embed import durable
-from tests.embed.durable import ENDLESS, KEY, Bank, Caller, Postgres, balance_of, callers_of, folders, judge, lr, until
+from tests.embed.durable import (ENDLESS, KEY, Bank, Caller, Postgres, balance_of, callers_of, folders, judge, located,
+                                 lr, until)
 from tests.programs import NEEDS
 
 try:
@@ -27,9 +28,9 @@ except ImportError:
 # where a bank is killed
 POINTS = ["asked", "begun", "looked", "changed", "stored", "committing", "committed", "answered"]
 POINTS_OF_PYTHON = ["begun", "changed", "stored", "committed"]
-# over SQLite; those in C and in Python are over PostgreSQL too
+# over SQLite; all but the one in Rust are over PostgreSQL too
 LANGUAGES = [(f"in {language}", language) for language in durable.LANGUAGES]
-OF_BOTH = [("in c", "c"), ("in py", "py")]
+OF_BOTH = [("in c", "c"), ("in cpp", "cpp"), ("in py", "py")]
 
 
 def points_of(languages: list[tuple[str, str]]) -> list[tuple[str, tuple[str, str]]]:
@@ -39,7 +40,7 @@ def points_of(languages: list[tuple[str, str]]) -> list[tuple[str, tuple[str, st
 
 
 # how often a bank is killed by chance: in C it begins at once
-KILLS = {"c": 100, "py": 12}
+KILLS = {"c": 250, "py": 12}
 
 
 async def call_on(callers: list[Caller], is_over: asyncio.Event) -> None:
@@ -184,6 +185,8 @@ async def recalled(bank: Bank, keep: object, name: str) -> None:
             except lr.SystemException as error:
                 assert (error.name, error.minor, error.completed) == want, (error, want)
         await client.close()
+    assert located(bank.port, KEY) == lr.LocateStatus.OBJECT_HERE
+    assert located(bank.port, b"none") == lr.LocateStatus.UNKNOWN_OBJECT
     client = lr.Client("127.0.0.1", bank.port)
     assert await client.call(KEY, "_is_a", "s", ("IDL:Bank:1.0",), "?")
     assert await client.call(KEY, "_is_a", "s", ("IDL:omg.org/CORBA/Object:1.0",), "?")
@@ -235,8 +238,9 @@ class OverSqlite(unittest.TestCase):
         with self.bank(given[0]) as bank:
             asyncio.run(killed_at(bank, given[1], "client"))
 
-    @base.each_seed(41, 1)
+    @base.each_seed(41, 4, 4)
     def test_killed_by_chance_in_c(self, seed):
+        """A thousand times in all."""
         with self.bank("c") as bank:
             asyncio.run(killed_by_chance(bank, KILLS["c"], random.Random(seed), "client"))
 
@@ -334,11 +338,40 @@ class OverSqlite(unittest.TestCase):
 class InMemory(unittest.TestCase):
     """In memory, handed over from one life to the next."""
 
-    @base.each_seed(59, 1)
-    def test_handed_over(self, seed):
+    @base.each(lambda: LANGUAGES)
+    def test_handed_over(self, language):
         """No call acts twice, and each has one answer, though no database has them."""
-        with contextlib.contextmanager(folders)() as folder, Bank("py", f"memory:{folder}/bank") as bank:
-            asyncio.run(handed_over(bank, 8, random.Random(seed), "client"))
+        with contextlib.contextmanager(folders)() as folder, Bank(language, f"memory:{folder}/bank") as bank:
+            asyncio.run(handed_over(bank, 8, random.Random(59), "client"))
+            self.assertEqual(bank.said(), [])
+
+    @base.each(lambda: LANGUAGES)
+    def test_what_is_handed_over_is_taken_once(self, language):
+        """It is gone for a process that begins later, where that one before was killed."""
+        with contextlib.contextmanager(folders)() as folder, Bank(language, f"memory:{folder}/bank") as bank:
+            for want in (7, 7):
+                bank.begin()
+                self.assertEqual(asyncio.run(answer_of(bank, "client", 1, "deposit", 7, ENDLESS)), want)
+                bank.end(signal.SIGTERM)
+            self.assertEqual(os.listdir(folder), ["bank"])
+            bank.begin()
+            self.assertEqual(asyncio.run(balance_of(bank.port, "client")), 7)
+            self.assertEqual(os.listdir(folder), [])
+            bank.end()
+            bank.begin()
+            self.assertEqual(asyncio.run(balance_of(bank.port, "client")), 0)
+
+    @base.each(lambda: [it for it in LANGUAGES if it[1] != "py"])
+    def test_what_is_handed_over_can_not_be_read(self, language):
+        """Nothing is performed, and it stays; once it is gone the bank begins without it."""
+        with contextlib.contextmanager(folders)() as folder, Bank(language, f"memory:{folder}/bank") as bank:
+            with open(f"{folder}/bank", "w", encoding="ascii") as file:
+                file.write("no database " * 100)
+            bank.begin()
+            asyncio.run(declined(bank, "client", "file is not a database"))
+            self.assertEqual(os.listdir(folder), ["bank"])
+            os.remove(f"{folder}/bank")
+            until(lambda: asyncio.run(answer_of(bank, "client", 3, "deposit", 7, ENDLESS)) == 7, "it begins")
 
 
 class OverPostgres(unittest.TestCase):

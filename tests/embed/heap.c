@@ -449,6 +449,7 @@ static void changes(void) {
   open_server();
   for (uint32_t what = LR_SET_MESSAGE; what <= LR_SET_CLIENT_ID; what++)
     AGAIN(lr_server_set(&server, what, what == LR_SET_PARTIALS ? 3 : 5000), LR_OK);
+  AGAIN(lr_server_set(&server, LR_SET_ASK_FIRST, 1), LR_OK);
   AGAIN(lr_catalogue_open(&other), LR_OK);
   AGAIN(lr_catalogue_open(&families), LR_OK);
   AGAIN(lr_catalogue_raw_object(&families, "f/", 2), LR_OK);

@@ -5,6 +5,7 @@ tests/engine.py. The library is that of LEMONRUDDER_LIBRARY, or the one that tes
 """
 import asyncio
 import gc
+import glob
 import itertools
 import logging
 import math
@@ -1016,6 +1017,82 @@ class Engines(Case):
                 engine.answer_unkept(outcome, ticket=ticket)
                 self.assertEqual(self.reply(engine).body.unpack("q"), (6,))
             self.assertEqual(engine.count(lr.Counted.KEPT), 0)
+
+    def refused_as(self, engine, octets, name):
+        """A request is asked for first, which would be refused by this: it is answered by what is stored, and refused so
+        where nothing is."""
+        outcome = lr.Outcome(0, LITTLE, lr.pack("q", 6, order=LITTLE))
+        for is_parked in (False, True):
+            engine.feed(1, octets, LONG_AGO)
+            asked = engine.asked()
+            self.assertIs(asked.refusal, lr.SystemName[name])
+            self.assertTrue(asked.is_raw)
+            self.fails(Error.OUTCOME, engine.answer_octets, lr.pack("q", 6))
+            ticket = engine.park() if is_parked else None
+            engine.answer_unkept(outcome, ticket=ticket)
+            self.assertEqual(self.reply(engine).body.unpack("q"), (6,))
+            engine.feed(1, octets, LONG_AGO)
+            refusal = engine.asked().refusal
+            ticket = engine.park() if is_parked else None
+            engine.refuse(refusal, ticket=ticket)
+            self.refusal(engine, name)
+        self.assertEqual(engine.count(lr.Counted.KEPT), 0)
+
+    def refusal(self, engine, name):
+        """A system exception is the reply, and nothing was done."""
+        self.assertEqual(self.reply(engine).body.unpack("sLL"), (f"IDL:omg.org/CORBA/{name}:1.0", 0, lr.Completed.NO))
+
+    def test_asked_first(self):
+        """A request with FT_REQUEST that would be refused for its object, its operation or its arguments."""
+        others = [
+            (asked_for(1, "get", retention=1, key=b"none"), "OBJECT_NOT_EXIST"),
+            (asked_for(1, "none", retention=1), "BAD_OPERATION"),
+            (asked_for(1, "add", b"", retention=1), "MARSHAL"),
+        ]
+        for octets, name in others:
+            self.refused_as(self.engine(ask_first=True), octets, name)
+            engine = self.engine()
+            engine.feed(1, octets, LONG_AGO)
+            self.refusal(engine, name)
+        engine = self.engine(ask_first=True)
+        engine.feed(1, asked_for(1, "none"), LONG_AGO)
+        self.refusal(engine, "BAD_OPERATION")
+        engine.feed(1, asked_for(1, "add", lr.pack("l", 7), retention=1), LONG_AGO)
+        asked = engine.asked()
+        self.assertEqual((asked.refusal, asked.arguments), (None, (7,)))
+        engine.answer(7)
+        self.reply(engine)
+        engine.feed(1, asked_for(1, "none", retention=1), LONG_AGO)
+        self.assertEqual(self.reply(engine).body.unpack("q"), (7,))
+
+    def test_room_beside_what_is_parked(self):
+        """Where nothing is kept there is room for each request, if there is for one more than may be parked."""
+        outcome = lr.Outcome(0, BIG, lr.pack("q", 6))
+        for capacity, share, has_room in ((3, 3, True), (2, 3, False), (3, 2, False)):
+            engine = self.engine(None, lr.LIMIT, lr.PARTIALS, capacity, share, max_parked=2, ask_first=True)
+            for number in range(9):
+                engine.feed(1, asked_for(number, "get", retention=number), LONG_AGO)
+                engine.answer_unkept(outcome)
+                engine.feed(1, asked_for(number, "none", retention=number), LONG_AGO)
+                engine.refuse(engine.asked().refusal)
+            engine.output(1)
+            for number in (20, 21):
+                engine.feed(1, asked_for(number, "get", retention=number), LONG_AGO)
+                engine.park()
+            engine.feed(1, asked_for(22, "none", retention=22), LONG_AGO)
+            self.assertEqual(engine.asked() is not None, has_room)
+            if not has_room:
+                self.refusal(engine, "NO_RESOURCES")
+
+    def test_begins_at_a_mark(self):
+        """Told W before anything comes, it refuses what expires before, whatever its clock says."""
+        engine = lr.Engine(counting())
+        engine.tick(500)
+        engine.connect(1)
+        engine.feed(1, asked_for(1, "get", retention=1, expiration=499), 7)
+        self.refusal(engine, "BAD_CONTEXT")
+        engine.feed(1, asked_for(2, "get", retention=2, expiration=500), 7)
+        self.assertEqual(engine.asked().ft.expiration, 500)
 
     def test_raw_outcomes_are_stored(self):
         """Those of a raw operation are stored by who performs it."""
@@ -3234,3 +3311,13 @@ class Library(Case):
                             "--target", folder, source], check=True, capture_output=True, timeout=SECONDS)
             self.assertTrue(os.path.exists(os.path.join(folder, "lemonrudder", "py.typed")))
             self.assertEqual(self.imported(folder), "b'\\x06'\n")
+
+    @needs("mypy")
+    def test_types(self):
+        """The types of the package are right, strictly, and those of the examples over it."""
+        package = os.path.join(ROOT, "bindings", "python")
+        examples = sorted(glob.glob(os.path.join(ROOT, "examples", "*.py")))
+        for words in (["--strict", os.path.join(package, "lemonrudder")], ["--ignore-missing-imports", *examples]):
+            run = subprocess.run(["mypy", "--cache-dir", os.devnull, *words], env={**os.environ, "MYPYPATH": package},
+                                 capture_output=True, text=True, timeout=SECONDS)
+            self.assertEqual(run.returncode, 0, run.stdout + run.stderr)

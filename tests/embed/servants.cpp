@@ -53,8 +53,19 @@ int main(int count, char** words) {
       });
     };
   };
-  const auto name = [](lr::Asked& asked) {
+  // Answers what would be refused for its operation by its name, which is not kept; what for another reason is left.
+  const auto name = [](lr::Asked& asked) -> lr::Done {
+    const auto refusal = asked.request().refused_by();
+    const auto text = asked.operation();
+    if (refusal == lr::SystemException::bad_operation)
+      return asked.answer_unkept({lr::ReplyStatus::no_exception, lr::Order::big, {text.begin(), text.end()}});
+    if (refusal) return {};
     return asked.answer_raw(lr::ReplyStatus::no_exception, lr::Order::big, lr::Octets(asked.operation()));
+  };
+  const auto read = [](lr::Asked& asked) {
+    const auto number = asked.arguments().get_long();
+    if (!number.ok()) return asked.system(lr::SystemException::no_implement, lr::Completed::no);
+    return asked.answer(lr::GrowingWriter().put_long(*number));
   };
   const auto stop = [&](lr::Asked& asked) {
     threads.emplace_back([&] { loop.post([&] { loop.stop(); }); });
@@ -62,6 +73,8 @@ int main(int count, char** words) {
   };
   const auto nothing = [](lr::Asked&) { return lr::Done(); };
   loop.otherwise(name);
+  lr::Settings settings;
+  settings.ask_first = true;
   for (const auto& done :
        {loop.object("desk", "IDL:Desk:1.0"), loop.raw_operation("desk", "echo", echo),
         loop.operation("desk", "forget", {}, {LR_TYPE_LONG}, forget),
@@ -70,7 +83,8 @@ int main(int count, char** words) {
         loop.operation("desk", "keep", {}, {LR_TYPE_LONG}, keep(false)),
         loop.operation("desk", "keep_later", {}, {LR_TYPE_LONG}, keep(true)),
         loop.operation("desk", "withdraw", {}, {}, withdraw), loop.operation("desk", "nothing", {}, {}, nothing),
-        loop.operation("desk", "stop", {}, {}, stop), loop.catalogue().raw_object("any"), loop.open()})
+        loop.operation("desk", "read", {LR_TYPE_LONG}, {LR_TYPE_LONG}, read),
+        loop.operation("desk", "stop", {}, {}, stop), loop.catalogue().raw_object("any"), loop.open(settings)})
     if (!done) return 1;
   if (loop.listen(words[1], static_cast<std::uint16_t>(std::atoi(words[2])))) return 1;
   std::printf("%s\n", loop.reference("desk").value_or("").c_str());

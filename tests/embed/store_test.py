@@ -12,7 +12,7 @@ import pickle
 import tempfile
 import unittest
 
-from tests.embed.durable import ENDLESS, lr
+from tests.embed.durable import ENDLESS, located, lr
 from tests.programs import NEEDS
 
 KEY, OVERDRAWN = b"bank", "IDL:Bank/Overdrawn:1.0"
@@ -328,6 +328,18 @@ class OverAModel(unittest.IsolatedAsyncioTestCase):
         await self.server.close()
         with self.assertRaises(lr.LemonrudderError):
             self.server.add(b"more", (), {}, servant=self.bank)
+
+    async def test_locates(self):
+        """They are answered by what is on offer, also where that changes."""
+        async def say(want, key=KEY):
+            asked = asyncio.get_running_loop().run_in_executor(None, located, self.port, key)
+            self.assertEqual(await asked, want)
+        await say(lr.LocateStatus.OBJECT_HERE)
+        await say(lr.LocateStatus.UNKNOWN_OBJECT, b"none")
+        self.server.remove(KEY)
+        await say(lr.LocateStatus.UNKNOWN_OBJECT)
+        self.server.add_default(lambda body: b"")
+        await say(lr.LocateStatus.OBJECT_HERE, b"none")
 
     async def test_it_takes_too_long(self):
         """Then nothing is kept but what it stored."""
