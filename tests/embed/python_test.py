@@ -4,6 +4,7 @@ What is read is compared with the rows and cases of `giop show`, with octets of 
 tests/engine.py. The library is that of LEMONRUDDER_LIBRARY, or the one that tests/programs.py finds.
 """
 import asyncio
+import contextlib
 import gc
 import glob
 import itertools
@@ -2690,6 +2691,26 @@ class Bounds(Case):
         text = "\n".join(logged.output)
         self.assertIn("is turned away", text)
         self.assertIn("it was idle", text)
+
+    def test_connections_that_come_while_it_closes(self):
+        """Those that are accepted then are dropped, and no line of a log that an operator reads speaks of them."""
+        async def main(turns):
+            server, client = await self.pair({"get": ("", "l", lambda: 1)})
+            peers = [socket.create_connection((client.host, client.port)) for _ in range(8)]
+            for _ in range(turns):
+                await asyncio.sleep(0)
+            await server.close()
+            for peer in peers:
+                with contextlib.suppress(ConnectionError):
+                    # (a goodbye, or nothing)
+                    self.assertLessEqual(len(peer.recv(1000)), 12)
+                peer.close()
+        with self.assertLogs("lemonrudder", "DEBUG") as logged:
+            for turns in range(5):
+                self.run_async(main(turns))
+        dropped = [one for one in logged.records if "is turned away" in one.getMessage()]
+        self.assertTrue(dropped)
+        self.assertEqual({(one.levelname, str(one.args[-1])) for one in dropped}, {("DEBUG", "the server closes")})
 
     def test_connections_that_are_lost(self):
         """One that memory was too short to answer on, which the engine alone knows, is closed by the next sweep."""
