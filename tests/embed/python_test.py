@@ -4,7 +4,6 @@ What is read is compared with the rows and cases of `giop show`, with octets of 
 tests/engine.py. The library is that of LEMONRUDDER_LIBRARY, or the one that tests/programs.py finds.
 """
 import asyncio
-import contextlib
 import gc
 import glob
 import itertools
@@ -2701,10 +2700,9 @@ class Bounds(Case):
                 await asyncio.sleep(0)
             await server.close()
             for peer in peers:
-                with contextlib.suppress(ConnectionError):
-                    # (a goodbye, or nothing)
-                    self.assertLessEqual(len(peer.recv(1000)), 12)
                 peer.close()
+            # (transports that were aborted end with the loop's next turns)
+            await asyncio.sleep(0.01)
         with self.assertLogs("lemonrudder", "DEBUG") as logged:
             for turns in range(5):
                 self.run_async(main(turns))
