@@ -58,6 +58,12 @@ def needed(crate, known):
     return order + [crate]
 
 
+def free_memory():
+    """The memory that is free, in gigabytes."""
+    with open("/proc/meminfo", encoding="ascii") as lines:
+        return next(int(line.split()[1]) for line in lines if line.startswith("MemAvailable:")) / (1 << 20)
+
+
 def now():
     """This moment, as the times of files that are written after it are not before it."""
     # (the system notes times of files by a clock that ticks)
