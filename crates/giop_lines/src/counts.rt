@@ -1,6 +1,36 @@
 //! What is said at the end of all connections.
 
-use std::alloc::Global;
+use std::alloc::{AllocError, Global};
+
+/// So many numbers are listed at most.
+const MOST_LISTED: usize = 65_536;
+
+/// Messages that are named by their numbers: the first ones; the others are counted.
+#[derive(Drop)]
+pub struct Listed {
+    pub numbers: Vec<u64>,
+    pub others: u64,
+}
+
+impl Listed {
+    /// None.
+    fn new(alloc: Global) -> Listed {
+        Listed {
+            numbers: Vec::new(alloc),
+            others: 0,
+        }
+    }
+
+    /// Adds one.
+    pub fn add(&mut self, number: u64) -> Result<(), AllocError> {
+        if self.numbers.len() >= MOST_LISTED {
+            self.others = self.others.saturating_add(1);
+            return Ok(());
+        }
+        self.numbers.push(number)?;
+        Ok(())
+    }
+}
 
 /// What is counted over all connections. Messages are named by their numbers.
 #[derive(Drop)]
@@ -12,13 +42,15 @@ pub struct Counts {
     /// Those of them that were cancelled.
     pub cancelled: Vec<u64>,
     /// Replies without a request.
-    pub strays: Vec<u64>,
+    pub strays: Listed,
     /// Requests that repeat an earlier one.
-    pub repeats: Vec<u64>,
+    pub repeats: Listed,
     pub faults: u64,
     pub passed: u64,
     /// Octets that the capture missed.
     pub missing: u64,
+    /// The message at which keys of requests were forgotten first, if some were.
+    pub forgot: Option<u64>,
 }
 
 impl Counts {
@@ -29,11 +61,12 @@ impl Counts {
             connections: 0,
             unanswered: Vec::new(alloc),
             cancelled: Vec::new(alloc),
-            strays: Vec::new(alloc),
-            repeats: Vec::new(alloc),
+            strays: Listed::new(alloc),
+            repeats: Listed::new(alloc),
             faults: 0,
             passed: 0,
             missing: 0,
+            forgot: None,
         }
     }
 

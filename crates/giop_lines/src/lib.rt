@@ -26,7 +26,7 @@ mod summary;
 
 // what is printed
 pub use caught::{Caught, Stamp, later_time, time_between};
-pub use counts::Counts;
+pub use counts::{Counts, Listed};
 pub use left::Left;
 pub use looks::{Looks, looks_of};
 pub use objects::Objects;

@@ -92,6 +92,17 @@ struct EndObject<'a> {
     faults: u64,
     passed: u64,
     missing: u64,
+    #[serde(skip_serializing_if = "Option::is_none")]
+    more_strays: Option<u64>,
+    #[serde(skip_serializing_if = "Option::is_none")]
+    more_repeats: Option<u64>,
+    #[serde(skip_serializing_if = "Option::is_none")]
+    forgot: Option<u64>,
+}
+
+/// A count, where something is counted.
+fn some_of(count: u64) -> Option<u64> {
+    Some(count).filter(|count| *count > 0)
 }
 
 /// The name of a direction.
@@ -300,11 +311,14 @@ pub(crate) fn put_counts(
         connections: counts.connections,
         unanswered: counts.unanswered.as_slice(),
         cancelled: counts.cancelled.as_slice(),
-        strays: counts.strays.as_slice(),
-        repeats: counts.repeats.as_slice(),
+        strays: counts.strays.numbers.as_slice(),
+        repeats: counts.repeats.numbers.as_slice(),
         faults: counts.faults,
         passed: counts.passed,
         missing: counts.missing,
+        more_strays: some_of(counts.strays.others),
+        more_repeats: some_of(counts.repeats.others),
+        forgot: counts.forgot,
     };
     put_object(alloc, &object, text)
 }

@@ -35,6 +35,8 @@ struct RowObject {
     latency99: Option<u64>,
     greatest: Option<u64>,
     exceptions: Vec<ExceptionObject>,
+    #[serde(skip_serializing_if = "Option::is_none")]
+    others: Option<bool>,
 }
 
 /// How many connections ended how.
@@ -57,11 +59,10 @@ fn put_latency(name: &str, latency: Option<u64>, text: &mut String) -> Result<()
     put_seconds(latency, text)
 }
 
-/// Appends the lines of a row.
-fn put_row(
+/// Appends what calls a row is of.
+fn put_called(
     alloc: Global,
     called: &Called,
-    row: &Row,
     objects: &mut Objects,
     text: &mut String,
 ) -> Result<(), AllocError> {
@@ -72,9 +73,23 @@ fn put_row(
     match &called.operation {
         Some(operation) => {
             let operation = text_of(alloc, operation)?;
-            write!(text, " operation {operation}:")?
+            write!(text, " operation {operation}:")
         }
-        None => text.push_str(" LocateRequest:")?,
+        None => text.push_str(" LocateRequest:"),
+    }
+}
+
+/// Appends the lines of a row; none is the one of all other calls.
+fn put_row(
+    alloc: Global,
+    called: Option<&Called>,
+    row: &Row,
+    objects: &mut Objects,
+    text: &mut String,
+) -> Result<(), AllocError> {
+    match called {
+        Some(called) => put_called(alloc, called, objects, text)?,
+        None => text.push_str("(others):")?,
     }
     let (requests, answers, repeats) = (row.requests, row.answers, row.repeats);
     let (asked, answered) = (row.asked, row.answered);
@@ -123,46 +138,57 @@ fn exception_objects(
     Ok(objects)
 }
 
-/// The digits of a key, if there is one.
-fn key_digits(alloc: Global, key: &Option<Vec<u8>>) -> Result<Option<String>, AllocError> {
-    match key {
-        Some(key) => Ok(Some(hex::encode(alloc, key)?)),
-        None => Ok(None),
-    }
+/// Which calls a row is of, for its object.
+#[derive(Drop)]
+struct CalledTexts {
+    key: Option<String>,
+    object: Option<String>,
+    operation: Option<String>,
 }
 
-/// The letter of a key, if there is one.
-fn letter_of(key: &Option<Vec<u8>>, objects: &mut Objects) -> Result<Option<String>, AllocError> {
-    match key {
-        Some(key) => objects.letter(key),
-        None => Ok(None),
-    }
-}
-
-/// The text of an operation, if there is one.
-fn operation_text(
-    alloc: Global,
-    operation: &Option<Vec<u8>>,
-) -> Result<Option<String>, AllocError> {
-    match operation {
-        Some(operation) => Ok(Some(text_of(alloc, operation)?)),
-        None => Ok(None),
-    }
-}
-
-/// Appends the object of a row.
-fn put_row_object(
+/// The texts of an operation on an object.
+fn called_texts(
     alloc: Global,
     called: &Called,
+    objects: &mut Objects,
+) -> Result<CalledTexts, AllocError> {
+    let mut texts = no_texts();
+    if let Some(key) = &called.key {
+        texts.key = Some(hex::encode(alloc, key)?);
+        texts.object = objects.letter(key)?;
+    }
+    if let Some(operation) = &called.operation {
+        texts.operation = Some(text_of(alloc, operation)?);
+    }
+    Ok(texts)
+}
+
+/// Those of all other calls.
+fn no_texts() -> CalledTexts {
+    CalledTexts {
+        key: None,
+        object: None,
+        operation: None,
+    }
+}
+
+/// Appends the object of a row; none is the one of all other calls.
+fn put_row_object(
+    alloc: Global,
+    called: Option<&Called>,
     row: &Row,
     objects: &mut Objects,
     text: &mut String,
 ) -> Result<(), AllocError> {
+    let texts = match called {
+        Some(called) => called_texts(alloc, called, objects)?,
+        None => no_texts(),
+    };
     let object = RowObject {
         line: "calls",
-        key: key_digits(alloc, &called.key)?,
-        object: letter_of(&called.key, objects)?,
-        operation: operation_text(alloc, &called.operation)?,
+        key: texts.key,
+        object: texts.object,
+        operation: texts.operation,
         requests: row.requests,
         answers: row.answers,
         repeats: row.repeats,
@@ -173,8 +199,23 @@ fn put_row_object(
         latency99: row.latency_at(99),
         greatest: row.greatest,
         exceptions: exception_objects(alloc, &row.exceptions)?,
+        others: if called.is_none() { Some(true) } else { None },
     };
     put_object(alloc, &object, text)
+}
+
+/// Appends the lines of a row, in the form of the printer.
+fn put_calls(
+    printer: &Printer,
+    called: Option<&Called>,
+    row: &Row,
+    objects: &mut Objects,
+    text: &mut String,
+) -> Result<(), AllocError> {
+    match printer.format {
+        Format::Lines => put_row(printer.alloc, called, row, objects, text),
+        Format::Json => put_row_object(printer.alloc, called, row, objects, text),
+    }
 }
 
 /// Appends the line of how connections ended.
@@ -207,10 +248,10 @@ pub(crate) fn put_summary(
 ) -> Result<(), AllocError> {
     let mut lines = String::new(printer.alloc);
     for (called, row) in &summary.rows {
-        match printer.format {
-            Format::Lines => put_row(printer.alloc, called, row, objects, &mut lines)?,
-            Format::Json => put_row_object(printer.alloc, called, row, objects, &mut lines)?,
-        }
+        put_calls(printer, Some(called), row, objects, &mut lines)?;
+    }
+    if summary.others.requests > 0 {
+        put_calls(printer, None, &summary.others, objects, &mut lines)?;
     }
     if let Format::Lines = printer.format {
         objects.put_fresh(text)?;

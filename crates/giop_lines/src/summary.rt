@@ -13,7 +13,7 @@ pub struct Row {
     /// Octets of the bodies of requests, and of answers.
     pub asked: u64,
     pub answered: u64,
-    /// How many answers came so late, by their latencies with eight binary digits.
+    /// How many answers came so late, by their latencies with eight binary digits, or one.
     pub latencies: BTreeMap<u64, u64>,
     /// The greatest latency.
     pub greatest: Option<u64>,
@@ -48,6 +48,29 @@ impl Called {
             key: copied(alloc, key)?,
             operation: copied(alloc, operation)?,
         })
+    }
+
+    /// The key of the object, if there is one.
+    fn key(&self) -> Option<&[u8]> {
+        match &self.key {
+            Some(key) => Some(key),
+            None => None,
+        }
+    }
+
+    /// The operation, if there is one.
+    fn operation(&self) -> Option<&[u8]> {
+        match &self.operation {
+            Some(operation) => Some(operation),
+            None => None,
+        }
+    }
+
+    /// How many octets both have.
+    fn size(&self) -> usize {
+        let key = self.key().map_or(0, |key| key.len());
+        let operation = self.operation().map_or(0, |operation| operation.len());
+        key.saturating_add(operation)
     }
 }
 
@@ -92,49 +115,119 @@ impl Endings {
 pub struct Summary {
     alloc: Global,
     pub rows: BTreeMap<Called, Row>,
+    /// What is counted of the calls that have no row of their own.
+    pub others: Row,
     pub endings: Endings,
+    room: Room,
 }
 
-/// So many rows are kept at most, and so many exceptions and latencies in one; others are not counted.
-const MOST: usize = 65_536;
+/// So many rows are kept at most.
+const MOST_ROWS: usize = 65_536;
 
-/// A latency with its first eight binary digits: 128 stand for each power of two.
-fn rounded(latency: u64) -> u64 {
-    let mut scale = 1u64;
+/// For what there is room in all rows together.
+#[derive(Drop)]
+struct Room {
+    /// Octets of keys, operations and names of exceptions.
+    octets: u64,
+    /// Latencies with eight binary digits.
+    latencies: u64,
+}
+
+impl Room {
+    /// All of it.
+    fn new() -> Room {
+        Room {
+            octets: 16_777_216,
+            latencies: 1_048_576,
+        }
+    }
+
+    /// Takes room for octets, if there is some.
+    fn take_octets(&mut self, octets: usize) -> bool {
+        let octets = octets as u64;
+        let has_room = octets <= self.octets;
+        if has_room {
+            self.octets = self.octets.saturating_sub(octets);
+        }
+        has_room
+    }
+
+    /// The latency that one counts as which is not counted yet in its row: with one binary digit, where there is no room.
+    fn take_latency(&mut self, latency: u64) -> u64 {
+        if self.latencies == 0 {
+            return rounded(latency, 2);
+        }
+        self.latencies = self.latencies.saturating_sub(1);
+        latency
+    }
+}
+
+/// A latency with its first binary digits: those of the numbers below `scale`, a power of two.
+fn rounded(latency: u64, scale: u64) -> u64 {
+    let mut unit = 1u64;
     let mut left = latency;
-    for _ in 0..57 {
-        if left < 256 {
+    for _ in 0..64 {
+        if left < scale {
             break;
         }
         left /= 2;
-        scale = scale.saturating_mul(2);
+        unit = unit.saturating_mul(2);
     }
-    left.saturating_mul(scale)
+    left.saturating_mul(unit)
 }
 
-/// Counts one more latency, where there is room.
-fn count_latency(counts: &mut BTreeMap<u64, u64>, latency: u64) -> Result<(), AllocError> {
+/// Counts one more.
+fn count_one(counts: &mut BTreeMap<u64, u64>, latency: u64) -> Result<(), AllocError> {
     if let Some(count) = counts.get_mut(&latency) {
         *count = count.saturating_add(1);
         return Ok(());
     }
-    if counts.len() < MOST {
-        counts.insert(latency, 1)?;
-    }
+    counts.insert(latency, 1)?;
     Ok(())
 }
 
-/// Counts one more exception, where there is room.
-fn count_exception(counts: &mut BTreeMap<Vec<u8>, u64>, name: Vec<u8>) -> Result<(), AllocError> {
+/// Counts one more latency: by its first eight binary digits, or by one.
+fn count_latency(
+    counts: &mut BTreeMap<u64, u64>,
+    latency: u64,
+    room: &mut Room,
+) -> Result<(), AllocError> {
+    let latency = rounded(latency, 256);
+    if counts.contains_key(&latency) {
+        return count_one(counts, latency);
+    }
+    let latency = room.take_latency(latency);
+    count_one(counts, latency)
+}
+
+/// The name under which exceptions are counted that find no room.
+const OTHERS: &[u8] = b"(others)";
+
+/// Counts one more exception of a name.
+fn count_name(counts: &mut BTreeMap<Vec<u8>, u64>, name: Vec<u8>) -> Result<(), AllocError> {
     if let Some(count) = counts.get_mut(&name) {
         *count = count.saturating_add(1);
         return Ok(());
     }
-    if counts.len() < MOST {
-        counts.insert(name, 1)?;
-    }
+    counts.insert(name, 1)?;
     Ok(())
 }
+
+/// Counts one more exception, among others where there is no room.
+fn count_exception(
+    alloc: Global,
+    counts: &mut BTreeMap<Vec<u8>, u64>,
+    name: Vec<u8>,
+    room: &mut Room,
+) -> Result<(), AllocError> {
+    if counts.contains_key(&name) || room.take_octets(name.len().saturating_add(APART)) {
+        return count_name(counts, name);
+    }
+    count_name(counts, Vec::from_slice(alloc, OTHERS)?)
+}
+
+/// So many octets of memory a name takes beside its octets, about.
+const APART: usize = 64;
 
 impl Row {
     /// Of no calls.
@@ -170,7 +263,7 @@ impl Row {
     }
 
     /// Counts a request.
-    pub fn ask(&mut self, octets: usize, is_repeat: bool) {
+    fn ask(&mut self, octets: usize, is_repeat: bool) {
         self.requests = self.requests.saturating_add(1);
         self.asked = self.asked.saturating_add(octets as u64);
         if is_repeat {
@@ -179,20 +272,22 @@ impl Row {
     }
 
     /// Counts an answer, and the exception that it is.
-    pub fn answer(
+    fn answer(
         &mut self,
+        alloc: Global,
         octets: usize,
         latency: Option<u64>,
         exception: Option<Vec<u8>>,
+        room: &mut Room,
     ) -> Result<(), AllocError> {
         self.answers = self.answers.saturating_add(1);
         self.answered = self.answered.saturating_add(octets as u64);
         self.greatest = self.greatest.max(latency);
         if let Some(latency) = latency {
-            count_latency(&mut self.latencies, rounded(latency))?;
+            count_latency(&mut self.latencies, latency, room)?;
         }
         match exception {
-            Some(name) => count_exception(&mut self.exceptions, name),
+            Some(name) => count_exception(alloc, &mut self.exceptions, name, room),
             None => Ok(()),
         }
     }
@@ -204,6 +299,7 @@ impl Summary {
         Summary {
             alloc,
             rows: BTreeMap::new(alloc),
+            others: Row::new(alloc),
             endings: Endings {
                 close: 0,
                 error: 0,
@@ -211,23 +307,53 @@ impl Summary {
                 fin: 0,
                 open: 0,
             },
+            room: Room::new(),
         }
     }
 
-    /// The row of an operation on an object, if there is one or room for it.
-    pub fn row(
-        &mut self,
-        key: Option<&[u8]>,
-        operation: Option<&[u8]>,
-    ) -> Result<Option<&mut Row>, AllocError> {
-        let called = Called::new(self.alloc, key, operation)?;
-        if !self.rows.contains_key(&called) {
-            if self.rows.len() >= MOST {
-                return Ok(None);
-            }
-            let again = Called::new(self.alloc, key, operation)?;
-            self.rows.insert(again, Row::new(self.alloc))?;
+    /// Sees to it that calls have a row, if there is room for it.
+    fn make_row(&mut self, called: &Called) -> Result<(), AllocError> {
+        if self.rows.contains_key(called) || self.rows.len() >= MOST_ROWS {
+            return Ok(());
         }
-        Ok(self.rows.get_mut(&called))
+        if !self.room.take_octets(called.size()) {
+            return Ok(());
+        }
+        let called = Called::new(self.alloc, called.key(), called.operation())?;
+        self.rows.insert(called, Row::new(self.alloc))?;
+        Ok(())
+    }
+
+    /// Counts a request for an operation on an object, by the octets of its body.
+    pub fn ask(
+        &mut self,
+        called: &Called,
+        octets: usize,
+        is_repeat: bool,
+    ) -> Result<(), AllocError> {
+        self.make_row(called)?;
+        match self.rows.get_mut(called) {
+            Some(row) => row.ask(octets, is_repeat),
+            None => self.others.ask(octets, is_repeat),
+        }
+        Ok(())
+    }
+
+    /// Counts an answer to one, by the octets of its body, and the exception that it is.
+    pub fn answer(
+        &mut self,
+        called: &Called,
+        octets: usize,
+        latency: Option<u64>,
+        exception: Option<Vec<u8>>,
+    ) -> Result<(), AllocError> {
+        self.make_row(called)?;
+        let alloc = self.alloc;
+        match self.rows.get_mut(called) {
+            Some(row) => row.answer(alloc, octets, latency, exception, &mut self.room),
+            None => self
+                .others
+                .answer(alloc, octets, latency, exception, &mut self.room),
+        }
     }
 }

@@ -1,19 +1,17 @@
 -- What is kept of the requests that wait, as messages come.
-use Rattle.std.proofs.Common.{◌≡◌, ℕ, Bool, true, false, ◌||◌, ◌&&◌, cond, List, [], ◌∷◌, ◌++◌, Option, Some, None, refl, sym, ap, subst, ◌∙◌, true≢false}
+use Rattle.std.proofs.Common.{◌≡◌, ℕ, Bool, true, false, ◌||◌, ◌&&◌, cond, List, [], ◌∷◌, ◌++◌, Option, Some, None, refl, sym, ap, ◌∙◌, true≢false}
 use Rattle.std.specs.BTreeMap.{is_at as is_at_key}
 use Rattle.std.specs.Global.{Vec}
 use Rattle.std.specs.Map.{lookup}
 use Rattle.std.specs.Option.{option_map_or}
 use Rattle.giop_tap.specs.declared.place.Place.{Place}
-use Rattle.giop_tap.specs.declared.part.Part.{Part}
-use Rattle.giop_tap.specs.declared.part.Part.TheVariants.{Asks, Answers, Cancels, Apart}
 use Rattle.giop_tap.specs.declared.sender.Sender.{Sender}
 use Rattle.giop_tap.specs.declared.place.Wanted.{Wanted}
 use Rattle.giop_tap.specs.declared.place.Wanted.TheVariants.{Reply, Location}
-use Rattle.giop_tap.specs.Pairing.{Asked, is_about, is_asked, is_wanted, latest, number_of, without_latest}
+use Rattle.giop_tap.specs.Pairing.{Asked, is_asked, is_wanted, latest, number_of, without_latest}
 use Rattle.giop_tap.specs.Waiting.{AreRising, AreWaiting, Waits, is_at, is_same_place, last_of, later_of, numbers_at, numbers_in, place_cmp, without_last}
 use Rattle.giop_tap.proofs.Places.{apart, asked_at, place-is, waits-here}
-use Rattle.giop_tap.proofs.Stacks.{either-latest, last-latest, numbers-passing, passing, push-apart, push-here, without-apart, without-here}
+use Rattle.giop_tap.proofs.Stacks.{either-latest, last-latest, numbers-passing, push-apart, push-here, without-apart, without-here}
 
 -- what stands under a key, where one changed
 pub under-cond : {V A : Type 0} (f : V → A) (d : A) (b : Bool) (w : V) (o : Option V) → option_map_or f (cond b (Some w) o) d ≡ cond b (f w) (option_map_or f o d)

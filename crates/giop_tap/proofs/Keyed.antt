@@ -1,5 +1,5 @@
 -- The first request with each key, as requests come.
-use Rattle.std.proofs.Common.{◌≡◌, ℕ, ℤ, Bool, true, false, ◌&&◌, cond, List, [], ◌∷◌, ◌++◌, Option, Some, None, bytes_eq, refl, sym, ap, subst, ◌∙◌, true≢false}
+use Rattle.std.proofs.Common.{◌≡◌, ℕ, ℤ, Bool, true, false, ◌&&◌, cond, List, [], ◌∷◌, ◌++◌, Option, Some, None, bytes_eq, refl, sym, ap, subst, ◌∙◌, true≢false, ◌-◌, ◌==◌, unwrap_or}
 use Rattle.std.proofs.lemmas.Bool.{and_parts}
 use Rattle.std.proofs.lemmas.Bool.Decides.{Decides-int_eq}
 use Rattle.std.proofs.lemmas.Map.Text.{is_eq-slice_cmp}
@@ -16,23 +16,14 @@ use Rattle.std.specs.Ordering.{int_cmp, int_eq, is_eq, nat_cmp, ordering_then}
 use Rattle.std.specs.declared.cmp.Ordering.{Ordering}
 use Rattle.std.specs.declared.cmp.Ordering.TheVariants.{Less, Equal, Greater}
 use Rattle.giop_tap.specs.declared.key.Key.{Key}
-use Rattle.giop_tap.specs.Keys.{AreNamed, Keys, key_cmp}
-use Rattle.giop_tap.specs.Pairing.{Named, has_key}
+use Rattle.giop_tap.specs.Keys.{AreNamed, Kept, Keys, KeysStand, key_cmp}
+use Rattle.giop_tap.specs.Pairing.{Memory, Named, first_in, has_key, number_in, number_or, pushed, roomy, this_or, turned, weight_of, with_key, with_one}
 
 -- the first that passes, with one more at the end
 
 first-apart : (test : Named → Bool) (ns : List Named) (x : Named) → test x ≡ false → find test (ns ++ x ∷ []) ≡ find test ns
 first-apart test [] x differs = rw differs refl
 first-apart test (n ∷ ns) x differs = ap (λ (o : Option Named). cond (test n) (Some n) o) (first-apart test ns x differs)
-
-first-stays : (test : Named → Bool) (ns : List Named) (x : Named) (k : ℕ) → option_map (λ n. n.number) (find test ns) ≡ Some k → option_map (λ n. n.number) (find test (ns ++ x ∷ [])) ≡ Some k
-first-stays test [] x k is = absurd (let h : None ≡ Some k = is in cc)
-first-stays test (n ∷ ns) x k is = by (test n) is (first-stays test ns x k)
-  where
-    by : (b : Bool) → option_map (λ n. n.number) (cond b (Some n) (find test ns)) ≡ Some k → (option_map (λ n. n.number) (find test ns) ≡ Some k → option_map (λ n. n.number) (find test (ns ++ x ∷ [])) ≡ Some k)
-        → option_map (λ n. n.number) (cond b (Some n) (find test (ns ++ x ∷ []))) ≡ Some k
-    by true is next = is
-    by false is next = next is
 
 first-here : (test : Named → Bool) (ns : List Named) (x : Named) → option_map (λ n. n.number) (find test ns) ≡ None → test x ≡ true → option_map (λ n. n.number) (find test (ns ++ x ∷ [])) ≡ Some x.number
 first-here test [] x is here = rw here refl
@@ -50,11 +41,11 @@ both Less b = refl
 both Equal b = refl
 both Greater b = refl
 
-turned : (a b : Bool) → (a && b) ≡ (b && a)
-turned true true = refl
-turned true false = refl
-turned false true = refl
-turned false false = refl
+swapped : (a b : Bool) → (a && b) ≡ (b && a)
+swapped true true = refl
+swapped true false = refl
+swapped false true = refl
+swapped false false = refl
 
 same-number : (a b : ℤ) → is_eq (int_cmp a b) ≡ int_eq a b
 same-number a b = by (int_eq a b) (is_eq (int_cmp a b)) refl refl
@@ -77,24 +68,9 @@ same-key : (k l : Key) (n : ℕ) → is_eq (key_cmp k l) ≡ has_key l.client_id
 same-key k l n =
     both (slice_cmp nat_cmp k.client_id.items l.client_id.items) (int_cmp k.retention_id l.retention_id)
     ∙ (λ i. is_eq-slice_cmp k.client_id.items l.client_id.items i && same-number k.retention_id l.retention_id i)
-    ∙ turned (bytes_eq k.client_id.items l.client_id.items) (int_eq k.retention_id l.retention_id)
+    ∙ swapped (bytes_eq k.client_id.items l.client_id.items) (int_eq k.retention_id l.retention_id)
 
--- what is kept stays where the key has come before
-pub named-again : (m : Keys) (ns : List Named) (k : Key) (n first : ℕ) → AreNamed m ns → lookup (is_at (key_cmp k)) m ≡ Some first → AreNamed m (ns ++ keyed_by k n ∷ [])
-named-again m ns k n first stands is l = by (has_key l.client_id.items l.retention_id (keyed_by k n)) refl
-  where
-    by : (b : Bool) → has_key l.client_id.items l.retention_id (keyed_by k n) ≡ b
-        → lookup (is_at (key_cmp l)) m ≡ option_map (λ n. n.number) (find (has_key l.client_id.items l.retention_id) (ns ++ keyed_by k n ∷ []))
-    by false e = stands l ∙ ap (λ (o : Option Named). option_map (λ n. n.number) o) (sym (first-apart (has_key l.client_id.items l.retention_id) ns (keyed_by k n) e))
-    by true e =
-        let parts = and_parts (int_eq k.retention_id l.retention_id) (bytes_eq k.client_id.items l.client_id.items) e in
-        let client : k.client_id.items ≡ l.client_id.items = (bytes_eq-Decides k.client_id.items l.client_id.items).0 parts.1 in
-        let retention : k.retention_id ≡ l.retention_id = (Decides-int_eq k.retention_id l.retention_id).0 parts.0 in
-        let there : option_map (λ n. n.number) (find (has_key l.client_id.items l.retention_id) ns) ≡ Some first =
-        (λ i. option_map (λ n. n.number) (find (has_key (sym client i) (sym retention i)) ns)) ∙ sym (stands k) ∙ is in
-        stands l ∙ there ∙ sym (first-stays (has_key l.client_id.items l.retention_id) ns (keyed_by k n) first there)
-
--- and one more is kept where it has not
+-- one more is kept where its key has not come
 pub named-first : (m m' : Keys) (ns : List Named) (k : Key) (n : ℕ) → AreNamed m ns → lookup (is_at (key_cmp k)) m ≡ None
     → ((l : Key) → lookup (is_at (key_cmp l)) m' ≡ cond (is_eq (key_cmp k l)) (Some n) (lookup (is_at (key_cmp l)) m)) → AreNamed m' (ns ++ keyed_by k n ∷ [])
 named-first m m' ns k n stands none changed l = by (has_key l.client_id.items l.retention_id (keyed_by k n)) refl
@@ -112,3 +88,51 @@ named-first m m' ns k n stands none changed l = by (has_key l.client_id.items l.
         (λ i. option_map (λ n. n.number) (find (has_key (sym client i) (sym retention i)) ns)) ∙ sym (stands k) ∙ none in
         changed l ∙ ap (λ (b : Bool). cond b (Some n) (lookup (is_at (key_cmp l)) m)) (same-key k l n ∙ e)
         ∙ sym (first-here (has_key l.client_id.items l.retention_id) ns (keyed_by k n) absent e)
+
+-- memory
+
+-- no request has a key where it has no number
+unnumbered : (o : Option Named) → option_map (λ n. n.number) o ≡ None → o ≡ None
+unnumbered None is = refl
+unnumbered (Some n) is = absurd (let h : Some n.number ≡ None = is in cc)
+
+-- nor where there is more room
+pub absent : (most number : ℕ) (client : List ℕ) (retention : ℤ) (s : Memory) → number_in client retention s.last ≡ None → find (has_key client retention) (roomy most number s).last ≡ None
+absent most number client retention s is = by (s.room == 0)
+  where
+    by : (b : Bool) → find (has_key client retention) (cond b (turned most number s) s).last ≡ None
+    by true = refl
+    by false = unnumbered (find (has_key client retention) s.last) is
+
+pub key-pushed : (k k' : Kept) (s : Memory) (key : Key) (n : ℕ) → KeysStand k s → find (has_key key.client_id.items key.retention_id) s.last ≡ None
+    → ((l : Key) → lookup (is_at (key_cmp l)) k'.last ≡ cond (is_eq (key_cmp key l)) (Some n) (lookup (is_at (key_cmp l)) k.last))
+    → k'.before ≡ k.before → k'.room ≡ k.room - weight_of key.client_id.items → k'.has_before ≡ k.has_before → k'.forgot ≡ k.forgot
+    → KeysStand k' (pushed (keyed_by key n) s)
+key-pushed k k' s key n stands none changed before room has forgot = record {
+  last_are = named-first k.last k'.last s.last key n stands.last_are (stands.last_are key ∙ ap (λ (o : Option Named). option_map (λ n. n.number) o) none) changed;
+  before_are = λ l. ap (λ (m : Keys). lookup (is_at (key_cmp l)) m) before ∙ stands.before_are l;
+  room_is = room ∙ ap (λ (r : ℕ). r - weight_of key.client_id.items) stands.room_is;
+  has_before_is = has ∙ stands.has_before_is;
+  forgot_is = forgot ∙ stands.forgot_is;
+}
+
+-- a key that is one of the last
+pub found-first : (client : List ℕ) (retention : ℤ) (s : Memory) (first : ℕ) → number_in client retention s.last ≡ Some first → Some first ≡ first_in client retention s
+found-first client retention s first is = sym (ap (λ (o : Option ℕ). this_or o (number_in client retention s.before)) is)
+
+pub found-stands : (k : Kept) (most number : ℕ) (client : List ℕ) (retention : ℤ) (s : Memory) (first : ℕ) → number_in client retention s.last ≡ Some first → KeysStand k s → KeysStand k (with_key most client retention number s)
+found-stands k most number client retention s first is stands =
+    subst (λ (o : Option ℕ). KeysStand k (with_one o s (pushed (record { client_id = client; retention_id = retention; number = number_or number (number_in client retention s.before) }) (roomy most number s)))) (sym is) stands
+
+-- and one that is not
+pub other-first : (client : List ℕ) (retention : ℤ) (s : Memory) → number_in client retention s.last ≡ None → number_in client retention s.before ≡ first_in client retention s
+other-first client retention s is = sym (ap (λ (o : Option ℕ). this_or o (number_in client retention s.before)) is)
+
+pub other-stands : (k : Kept) (most number : ℕ) (client : List ℕ) (retention : ℤ) (s : Memory) → number_in client retention s.last ≡ None
+    → KeysStand k (pushed (record { client_id = client; retention_id = retention; number = number_or number (number_in client retention s.before) }) (roomy most number s)) → KeysStand k (with_key most client retention number s)
+other-stands k most number client retention s is stands =
+    subst (λ (o : Option ℕ). KeysStand k (with_one o s (pushed (record { client_id = client; retention_id = retention; number = number_or number (number_in client retention s.before) }) (roomy most number s)))) (sym is) stands
+
+pub or-number : (o : Option ℕ) (number : ℕ) → unwrap_or o number ≡ number_or number o
+or-number None number = refl
+or-number (Some n) number = refl

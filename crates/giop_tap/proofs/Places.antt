@@ -1,5 +1,5 @@
 -- Places that are equal are one, and a request waits at one place alone.
-use Rattle.std.proofs.Common.{◌≡◌, ℕ, Bool, true, false, ◌&&◌, ◌==◌, refl, sym, ap, subst, ◌∙◌, true≢false, arith}
+use Rattle.std.proofs.Common.{◌≡◌, ℕ, Bool, true, false, ◌&&◌, ◌==◌, refl, sym, ap, ◌∙◌, true≢false, arith}
 use Rattle.std.proofs.lemmas.Bool.{and_parts, eq-eqb}
 use Rattle.std.proofs.lemmas.Bool.Decides.{nat_tests}
 use Rattle.std.specs.Cmp.{Equal-is}
@@ -16,7 +16,7 @@ use Rattle.giop_tap.specs.declared.place.Place.{Place}
 use Rattle.giop_tap.specs.contracts.sender.SenderOrd.TheImpl as sender_order
 use Rattle.giop_tap.specs.contracts.place.WantedOrd.TheImpl as wanted_order
 use Rattle.giop_tap.specs.Pairing.{Asked, is_same, is_wanted}
-use Rattle.giop_tap.specs.Waiting.{is_at, is_same_place, place_cmp}
+use Rattle.giop_tap.specs.Waiting.{is_at, is_same_place}
 
 then-equal : (a b : Ordering) → is_eq (ordering_then a b) ≡ true → (is_eq a ≡ true) × (is_eq b ≡ true)
 then-equal Less b h = absurd (true≢false (sym h))

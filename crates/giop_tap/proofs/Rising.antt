@@ -1,10 +1,10 @@
--- The requests that wait stand in the order of their numbers, and each message has its tie.
-use Rattle.std.proofs.Common.{◌≡◌, ℕ, suc, ◌<◌, refl, List, [], ◌∷◌, ◌++◌, length, ap, ◌∙◌, arith}
+-- The requests that wait stand in the order of their numbers.
+use Rattle.std.proofs.Common.{ℕ, suc, ◌<◌, List, [], ◌∷◌, length, arith}
 use Rattle.std.specs.List.{AllByRecursion}
 use Rattle.giop_tap.specs.declared.part.Part.{Part}
 use Rattle.giop_tap.specs.declared.part.Part.TheVariants.{Asks, Answers, Cancels, Apart}
 use Rattle.giop_tap.specs.declared.sender.Sender.{Sender}
-use Rattle.giop_tap.specs.Pairing.{Asked, Said, is_about, part_of, tie_of, ties, waiting, waiting_after}
+use Rattle.giop_tap.specs.Pairing.{Asked, Said, is_about, part_of, waiting, waiting_after}
 use Rattle.giop_tap.specs.Waiting.{AreRising}
 use Rattle.giop_tap.proofs.Stacks.{all-push, all-without, rising-push, rising-without}
 
@@ -32,12 +32,3 @@ rise-below (m ∷ earlier) = step (suc (length earlier)) m.connection m.sender (
 
 pub waiting-rises : (earlier : List Said) → AreRising (waiting earlier)
 waiting-rises earlier = (rise-below earlier).rise
-
-length-push : {A : Type 0} (xs : List A) (x : A) → length (xs ++ x ∷ []) ≡ suc (length xs)
-length-push [] x = refl
-length-push (y ∷ ys) x = ap suc (length-push ys x)
-
--- each message has its tie
-pub length-ties : (earlier : List Said) → length (ties earlier) ≡ length earlier
-length-ties [] = refl
-length-ties (m ∷ earlier) = length-push (ties earlier) (tie_of m earlier) ∙ ap suc (length-ties earlier)

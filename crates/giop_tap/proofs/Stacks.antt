@@ -4,8 +4,7 @@ use Rattle.std.specs.Option.{IsSome, option_to_list}
 use Rattle.std.specs.List.{AllByRecursion, list_any}
 use Rattle.giop_tap.specs.declared.place.Place.{Place}
 use Rattle.giop_tap.specs.Pairing.{Asked, later_or, latest, number_of, without_latest}
-use Rattle.giop_tap.specs.Waiting.{AreRising, is_at, is_same_place, last_of, last_or_this, later_of, numbers_at, with_first, without_last}
-use Rattle.giop_tap.proofs.Places.{apart}
+use Rattle.giop_tap.specs.Waiting.{AreRising, is_at, last_of, last_or_this, later_of, numbers_at, with_first, without_last}
 
 -- the numbers of those for which a test holds
 pub passing : (Asked → Bool) → List Asked → List ℕ

@@ -1,5 +1,5 @@
 -- The messages of connections in the order in which they complete, by what each side sent.
-use Rattle.std.specs.Prelude.{◌≡◌, ℕ, ◌++◌, List, [], ◌∷◌, length, drop}
+use Rattle.std.specs.Prelude.{◌≡◌, ℕ, ◌++◌, List, [], ◌∷◌, length, drop, Option}
 use Rattle.giop_core.specs.declared.header.Version.{Version}
 use Rattle.giop_core.specs.Content.{Content}
 use Rattle.giop_frames.specs.declared.limits.Limits.{Limits}
@@ -8,8 +8,8 @@ use Rattle.giop_link.specs.Listening.{Listened, ListenerStands}
 use Rattle.giop_tap.specs.declared.pairing.Tie.{Tie}
 use Rattle.giop_tap.specs.declared.sender.Sender.{Sender}
 use Rattle.giop_tap.specs.declared.sender.Sender.TheVariants.{Opener, Acceptor}
-use Rattle.giop_tap.specs.Keys.{AreNamed, Keys}
-use Rattle.giop_tap.specs.Pairing.{Said, named, ties, waiting}
+use Rattle.giop_tap.specs.Keys.{Kept, KeysStand}
+use Rattle.giop_tap.specs.Pairing.{Said, last_tie, remembered, waiting}
 use Rattle.giop_tap.specs.Waiting.{AreWaiting, Waits}
 
 -- each message counts to a reader beside the connection
@@ -64,17 +64,19 @@ connected connection t = record { connection = connection; opener = []; acceptor
 abbrev pub silence : Talk
 silence = record { connection = 0; opener = []; acceptor = []; earlier = [] }
 
--- what is kept of messages: what each had to do with those before it, the requests that wait, and those with keys
+-- what is kept of messages: how many came, what the last had to do with those before it, the requests that wait, and the keys
 pub record Paired : Type 0 where
-  pub ties : List Tie
+  pub count : ℕ
+  pub last : Option Tie
   pub waiting : Waits
-  pub keyed : Keys
+  pub keyed : Kept
 
 -- it is that of these messages, the latest first
 pub record PairsStand (p : Paired) (earlier : List Said) : Type 0 where
-  pub ties_are : p.ties ≡ ties earlier
+  pub count_is : p.count ≡ length earlier
+  pub last_is : p.last ≡ last_tie p.keyed.most earlier
   pub waiting_are : AreWaiting p.waiting (waiting earlier)
-  pub keyed_are : AreNamed p.keyed (named earlier)
+  pub keyed_stand : KeysStand p.keyed (remembered p.keyed.most earlier)
 
 -- the ends of a connection that was left for another, and what both sides have sent on it
 pub record Parted : Type 0 where

@@ -1,11 +1,11 @@
 //! Which request a message answers or cancels, and which it repeats.
 
-ghost use Rattle.std.specs.Prelude.{◌≡◌, ◌∷◌, [], List, IfOk, OnOk};
+ghost use Rattle.std.specs.Prelude.{◌≡◌, suc, ◌∷◌, [], List, IfOk, OnOk};
 ghost use Rattle.giop_core.specs.Lent.{content_of};
 ghost use Rattle.giop_tap.specs.Pairing.{Said, tie_of};
 ghost use Rattle.giop_tap.specs.Tracing.{PairsStand};
 
-use crate::keys::{Keyed, take_key};
+use crate::keys::Keyed;
 use crate::part::{field_of, part_of};
 use crate::sender::Sender;
 use crate::waiting::{Waiting, take_part};
@@ -19,19 +19,20 @@ use std::marker::Model;
 pub struct Tie {
     /// The request that it answers or cancels.
     pub request: Option<u64>,
-    /// The first request with its key (FT_REQUEST), on this connection or an earlier one.
+    /// The first request with its key (FT_REQUEST), on this connection or an earlier one, as far as it is remembered.
     pub repeats: Option<u64>,
 }
 
 /// The messages of connections so far, as far as later ones have to do with them.
 ///
-/// It keeps the requests that wait for an answer by where they wait, the first request with each key, and what each
-/// message had to do with those before it. A message costs as many steps as these maps are deep, however many
-/// requests wait and however many keys have come.
+/// It keeps how many there were, what the last one had to do with those before it, the requests that wait for an answer
+/// by where they wait, and the first request with each key that is remembered. A message costs as many steps as these
+/// maps are deep, but that now and then keys are forgotten.
 #[derive(Debug, Drop)]
 pub(crate) struct Pairs {
     alloc: Global,
-    ties: Vec<Tie>,
+    count: u64,
+    last: Option<Tie>,
     waiting: Waiting,
     keyed: Keyed,
 }
@@ -41,27 +42,53 @@ impl Model for Pairs {
 
     ghost Value = { Paired };
 
-    ghost view = { λ p. record { ties = p.ties.items; waiting = p.waiting.entries; keyed = p.keyed.entries } };
+    ghost view = { λ p. record { count = p.count; last = p.last; waiting = p.waiting.entries; keyed = p.keyed } };
+}
+
+/// The number after so many messages. (No machine counts so far that there is none.)
+fn next_after(count: u64) -> Result<u64, AllocError>
+    ensures { IfOk result (λ n. n ≡ suc count) }
+{
+    match count.checked_add(1) {
+        Some(number) => Ok(number),
+        None => Err(AllocError),
+    }
 }
 
 impl Pairs {
-    /// No message so far.
-    pub fn new(alloc: Global) -> Pairs
-        ensures { PairsStand result [] }
+    /// No message so far. The keys that are remembered weigh so much at most, twice.
+    pub fn new(alloc: Global, keys: u64) -> Pairs
+        ensures stands { PairsStand result [] }
+        ensures keys { result.keyed.most ≡ keys }
     {
         Pairs {
             alloc,
-            ties: Vec::new(alloc),
+            count: 0,
+            last: None,
             waiting: BTreeMap::new(alloc),
-            keyed: BTreeMap::new(alloc),
+            keyed: Keyed::new(alloc, keys),
         }
     }
 
-    /// What each message has to do with those before it. The number of a message is its place here, from 1.
-    pub fn ties(&self) -> &[Tie]
-        ensures { result.now ≡ self.now.ties }
+    /// How many messages there were.
+    pub fn count(&self) -> u64
+        ensures { result ≡ self.now.count }
     {
-        self.ties.as_slice()
+        self.count
+    }
+
+    /// What the last message had to do with those before it.
+    pub fn last(&self) -> Option<Tie>
+        ensures { result ≡ self.now.last }
+    {
+        self.last
+    }
+
+    /// The number of the message at which keys were forgotten first, if some were.
+    pub fn forgot(&self) -> Option<u64>
+        ensures { result ≡ self.now.keyed.forgot }
+    {
+        self.keyed.forgot()
     }
 
     /// The numbers of the requests that no message has answered, in their order.
@@ -82,9 +109,10 @@ impl Pairs {
         content: &Content,
     ) -> Result<Tie, AllocError>
         ensures stands { (earlier : List Said) → PairsStand self.old earlier → OnOk result (PairsStand self.new (record { connection = connection; sender = sender; content = content_of content.now } ∷ earlier)) }
-        ensures tie { (earlier : List Said) → PairsStand self.old earlier → IfOk result (λ t. t ≡ tie_of (record { connection = connection; sender = sender; content = content_of content.now }) earlier) }
+        ensures tie { (earlier : List Said) → PairsStand self.old earlier → IfOk result (λ t. t ≡ tie_of self.old.keyed.most (record { connection = connection; sender = sender; content = content_of content.now }) earlier) }
+        ensures keys { self.new.keyed.most ≡ self.old.keyed.most }
     {
-        let number = self.ties().len() as u64 + 1;
+        let number = next_after(self.count)?;
         let part = part_of(content);
         let request = take_part(
             self.alloc,
@@ -94,9 +122,10 @@ impl Pairs {
             sender,
             part,
         )?;
-        let repeats = take_key(self.alloc, &mut self.keyed, number, field_of(content))?;
+        let repeats = self.keyed.take(number, field_of(content))?;
         let tie = Tie { request, repeats };
-        self.ties.push(tie)?;
+        self.count = number;
+        self.last = Some(tie);
         Ok(tie)
     }
 }

@@ -1,6 +1,6 @@
 //! A reader beside connections: each message of either side, and what it has to do with earlier ones.
 
-ghost use Rattle.std.specs.Prelude.{◌≡◌, ◌≤◌, ◌++◌, ℕ, List, length, take, slice_get, ◌-◌, IfOk, IfSome, Some};
+ghost use Rattle.std.specs.Prelude.{◌≡◌, ◌≤◌, ◌++◌, ℕ, List, length, take, IfOk, IfSome, Some};
 ghost use Rattle.giop_frames.specs.declared.limits.Limits.{Limits};
 ghost use Rattle.giop_link.specs.Listening.{ListenerStands};
 ghost use Rattle.giop_tap.specs.Pairing.{Said};
@@ -29,6 +29,7 @@ fn hear(
     ensures pairs { (limits : Limits) (s : List ℕ) (earlier : List Said) → ListenerStands counts limits listener.old s → PairsStand pairs.old earlier
         → IfOk result (λ n. PairsStand pairs.new (said_after connection sender (news limits s (take n piece.now)) earlier)) }
     ensures within { IfOk result (λ n. n ≤ length piece.now) }
+    ensures keys { pairs.new.keyed.most ≡ pairs.old.keyed.most }
 {
     let taken = listener.feed(piece)?;
     if listener.is_closed() {
@@ -109,10 +110,12 @@ impl Model for Trace {
 }
 
 impl Trace {
-    /// A reader to which nothing has come.
-    pub fn new(alloc: Global, limits: Limits) -> Trace
+    /// A reader to which nothing has come. It remembers the keys of requests that came last: at least those that weigh
+    /// `keys` together, and at most twice as many. A key weighs one, and one more for each 256 octets of its client id.
+    pub fn new(alloc: Global, limits: Limits, keys: u64) -> Trace
         ensures stands { TraceStands result tracing.silence }
         ensures limits { result.limits ≡ limits }
+        ensures keys { result.pairs.keyed.most ≡ keys }
     {
         Trace {
             alloc,
@@ -120,7 +123,7 @@ impl Trace {
             connection: 0,
             opener: Listener::new(alloc, limits),
             acceptor: Listener::new(alloc, limits),
-            pairs: Pairs::new(alloc),
+            pairs: Pairs::new(alloc, keys),
             lends: None,
         }
     }
@@ -130,6 +133,7 @@ impl Trace {
     pub fn connect(&mut self, connection: u64)
         ensures stands { (t : Talk) → TraceStands self.old t → TraceStands self.new (tracing.connected connection t) }
         ensures limits { self.new.limits ≡ self.old.limits }
+        ensures keys { self.new.pairs.keyed.most ≡ self.old.pairs.keyed.most }
     {
         self.connection = connection;
         self.opener = Listener::new(self.alloc, self.limits);
@@ -143,6 +147,7 @@ impl Trace {
         ensures stands { (t on : Talk) → TraceStands self.old t → EndsStand self.old.limits ends on → TraceStands self.new (tracing.turned on t) }
         ensures left { (t : Talk) → TraceStands self.old t → EndsStand self.old.limits result t }
         ensures limits { self.new.limits ≡ self.old.limits }
+        ensures keys { self.new.pairs.keyed.most ≡ self.old.pairs.keyed.most }
     {
         self.lends = None;
         let opener = mem::replace(&mut self.opener, ends.opener);
@@ -159,6 +164,7 @@ impl Trace {
     pub fn resume(&mut self, sender: Sender)
         ensures stands { (t : Talk) → TraceStands self.old t → TraceStands self.new (tracing.resumed sender t) }
         ensures limits { self.new.limits ≡ self.old.limits }
+        ensures keys { self.new.pairs.keyed.most ≡ self.old.pairs.keyed.most }
     {
         let listener = Listener::new(self.alloc, self.limits);
         match sender {
@@ -176,6 +182,7 @@ impl Trace {
         ensures stands { (t : Talk) → TraceStands self.old t → IfOk result (λ n. TraceStands self.new (talk_after self.old.limits sender (take n piece.now) t)) }
         ensures within { IfOk result (λ n. n ≤ length piece.now) }
         ensures limits { self.new.limits ≡ self.old.limits }
+        ensures keys { self.new.pairs.keyed.most ≡ self.old.pairs.keyed.most }
     {
         self.lends = Some(sender);
         let connection = self.connection;
@@ -200,8 +207,8 @@ impl Trace {
     /// The message that the last call of `feed` completed, if it did.
     pub fn seen(&self) -> Option<Seen<'_>>
         // its number is that of all messages so far
-        ensures number { IfSome result (λ s. s.number ≡ length self.now.pairs.ties) }
-        ensures tie { IfSome result (λ s. slice_get self.now.pairs.ties (length self.now.pairs.ties - 1) ≡ Some s.tie) }
+        ensures number { IfSome result (λ s. s.number ≡ self.now.pairs.count) }
+        ensures tie { IfSome result (λ s. self.now.pairs.last ≡ Some s.tie) }
         ensures connection { IfSome result (λ s. s.connection ≡ self.now.connection) }
     {
         let sender = self.lends?;
@@ -209,10 +216,9 @@ impl Trace {
             Sender::Opener => self.opener.message()?,
             Sender::Acceptor => self.acceptor.message()?,
         };
-        let ties = self.pairs.ties();
-        let tie = *ties.last()?;
+        let tie = self.pairs.last()?;
         Some(Seen {
-            number: ties.len() as u64,
+            number: self.pairs.count(),
             connection: self.connection,
             sender,
             message,
@@ -243,11 +249,19 @@ impl Trace {
         }
     }
 
-    /// What each message had to do with those before it, by number.
-    pub fn ties(&self) -> &[Tie]
-        ensures { result.now ≡ self.now.pairs.ties }
+    /// How many messages there were on all connections.
+    pub fn count(&self) -> u64
+        ensures { result ≡ self.now.pairs.count }
     {
-        self.pairs.ties()
+        self.pairs.count()
+    }
+
+    /// The number of the message at which keys of requests were forgotten first, if some were: later requests with one of
+    /// them repeat nothing that is known.
+    pub fn forgot(&self) -> Option<u64>
+        ensures { result ≡ self.now.pairs.keyed.forgot }
+    {
+        self.pairs.forgot()
     }
 
     /// The numbers of the requests that no message has answered, in their order.

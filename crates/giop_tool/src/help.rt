@@ -4,6 +4,7 @@ use giop_run::{
     CAPACITY, JOINED, LEAST_LIMIT, LIMIT, MOST_CONNECTIONS, MOST_LIMIT, MOST_OUTCOMES,
     MOST_PARTIALS, MOST_PLACES, PARKED, PARTIALS, START,
 };
+use giop_trace::KEYS;
 use std::alloc::{AllocError, Global};
 
 /// The version that `giop --version` prints.
@@ -223,6 +224,7 @@ pub(crate) struct Texts {
     pub(crate) port: String,
     pub(crate) connections: String,
     pub(crate) timeout: String,
+    pub(crate) keys: String,
     pub(crate) show: String,
     pub(crate) check: String,
 }
@@ -297,6 +299,13 @@ impl Texts {
                 "After how many seconds a read or a write fails, and with it its connection",
                 1,
                 u64::from(u32::MAX),
+            )?,
+            keys: optional(
+                alloc,
+                "How many keys of FT_REQUEST are remembered at least",
+                1,
+                u64::from(u32::MAX),
+                u64::from(KEYS),
             )?,
             show: stream_text(alloc, SHOW_LINES)?,
             check: stream_text(alloc, CHECK_LINES)?,

@@ -15,7 +15,7 @@ use giop_run::{
     CAPACITY, EnginePlay, Form, Input, JOINED, LIMIT, MOST_CONNECTIONS, Numbers, PARKED, PARTIALS,
     START, Service, Task,
 };
-use giop_trace::{Choice, Options};
+use giop_trace::{Choice, KEYS, Options};
 use std::alloc::{AllocError, Global};
 
 /// What the program is to do.
@@ -90,12 +90,14 @@ fn check_command<'a>(alloc: Global, texts: &'a Texts) -> Result<Command<'a>, All
 }
 
 /// `giop trace [FILE]`.
-fn trace_command<'a>(alloc: Global) -> Result<Command<'a>, AllocError> {
+fn trace_command<'a>(alloc: Global, texts: &'a Texts) -> Result<Command<'a>, AllocError> {
     let command = stream_command(alloc, "trace", help::TRACES, help::TRACE)?
         .arg(flag(alloc, "resume", help::RESUME))?
         .arg(flag(alloc, "json", help::JSON))?
         .arg(flag(alloc, "bodies", help::BODIES))?
         .arg(flag(alloc, "clock", help::CLOCK))?;
+    let keys = ValueParser::unsigned(1, u64::from(u32::MAX));
+    let command = with_number(alloc, command, "keys", &texts.keys, keys)?;
     with_choice(alloc, command)
 }
 
@@ -148,7 +150,7 @@ fn command<'a>(alloc: Global, texts: &'a Texts) -> Result<Command<'a>, AllocErro
     let command = with(base_command(alloc)?, play_command(alloc, texts))?;
     let command = with(command, show_command(alloc, texts))?;
     let command = with(command, check_command(alloc, texts))?;
-    let command = with(command, trace_command(alloc))?;
+    let command = with(command, trace_command(alloc, texts))?;
     let command = with(command, ior_command(alloc))?;
     with(command, serve_command(alloc, texts))
 }
@@ -273,6 +275,7 @@ fn tracing_of<'a>(words: &ArgMatches<'a>) -> Tracing<'a> {
             is_clock: words.get_flag("clock"),
             choice: choice_of(words),
             is_summary: words.get_flag("summary"),
+            keys: words.get_one::<u32>("keys").unwrap_or(KEYS),
         },
     }
 }

@@ -28,5 +28,5 @@ mod yaml;
 
 // what `giop trace` does
 pub use choice::Choice;
-pub use program::{Options, trace};
+pub use program::{KEYS, Options, trace};
 pub use stop::{Failure, Stop};

@@ -1,6 +1,7 @@
 //! What `giop trace` does with its input.
 
 use crate::choice::{Choice, Chooser};
+use crate::direction::Reading;
 use crate::session::Session;
 use crate::sink::{Sink, Source};
 use crate::stop::{Failure, Stop};
@@ -29,7 +30,12 @@ pub struct Options<'a> {
     pub choice: Choice<'a>,
     /// Whether counts of calls are printed, and no messages.
     pub is_summary: bool,
+    /// How many keys of FT_REQUEST are remembered at least; at most twice as many are.
+    pub keys: u32,
 }
+
+/// How many keys are remembered at least where nothing is asked for.
+pub const KEYS: u32 = 500_000;
 
 /// Whether octets begin a message.
 fn is_octets(input: &[u8]) -> bool {
@@ -161,6 +167,10 @@ pub fn trace<R: Read, W: Write>(
         Ok(writer) => Sink::new(writer),
         Err(_) => return Err(Failure::Stop(Stop::Memory)),
     };
+    let reading = Reading {
+        limits: Limits::default(),
+        resumes: options.resumes,
+    };
     let mut tracing = Run {
         alloc,
         is_raw: options.is_raw,
@@ -169,7 +179,7 @@ pub fn trace<R: Read, W: Write>(
             is_ended: false,
             error: None,
         },
-        session: Session::new(alloc, Limits::default(), options.resumes, teller),
+        session: Session::new(alloc, reading, u64::from(options.keys), teller),
     };
     let came = tracing.run(&mut out);
     let Err(stop) = came else {

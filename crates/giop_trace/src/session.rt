@@ -7,7 +7,6 @@ use crate::sink::Sink;
 use crate::steps::Step;
 use crate::stop::Stop;
 use crate::telling::Teller;
-use giop_frames::Limits;
 use giop_lines::{Closing, Endpoints, Left, Spot, Stamp};
 use giop_tap::{Ends, Sender, Trace};
 use std::alloc::Global;
@@ -34,11 +33,11 @@ pub(crate) struct Session {
 
 impl Session {
     /// One in which nothing has come.
-    pub fn new(alloc: Global, limits: Limits, resumes: bool, teller: Teller) -> Session {
+    pub fn new(alloc: Global, reading: Reading, keys: u64, teller: Teller) -> Session {
         Session {
             alloc,
-            reading: Reading { limits, resumes },
-            trace: Trace::new(alloc, limits),
+            reading,
+            trace: Trace::new(alloc, reading.limits, keys),
             teller,
             open: Open::none(alloc),
             others: BTreeMap::new(alloc),
@@ -267,7 +266,8 @@ impl Session {
 
     /// Prints what was counted.
     pub fn end<W: Write>(&mut self, out: &mut Sink<W>) -> Result<(), Stop> {
-        self.teller.counts.messages = self.trace.ties().len() as u64;
+        self.teller.counts.messages = self.trace.count();
+        self.teller.counts.forgot = self.trace.forgot();
         let unanswered = self.trace.unanswered()?;
         self.teller.end(unanswered, out)
     }

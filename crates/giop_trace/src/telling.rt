@@ -6,7 +6,7 @@ use crate::open::Open;
 use crate::sink::Sink;
 use crate::stop::Stop;
 use giop_core::{Body, Content, LocateStatus, ReplyStatus};
-use giop_lines::{Counts, Objects, Printer, Shown, Summary, time_between};
+use giop_lines::{Called, Counts, Objects, Printer, Shown, Summary, time_between};
 use giop_tap::Seen;
 use giop_text::{exception_id, exception_name, system_exception};
 use std::alloc::{AllocError, Global};
@@ -95,11 +95,11 @@ fn asking_of<'m>(content: &Content<'m>) -> (usize, Option<&'m [u8]>) {
 /// Counts what a message has to do with earlier ones.
 fn count(seen: &Seen, asked: &mut Asked, counts: &mut Counts) -> Result<(), Stop> {
     if seen.tie.repeats.is_some() {
-        counts.repeats.push(seen.number)?;
+        counts.repeats.add(seen.number)?;
     }
     match (&seen.message.content, seen.tie.request) {
         (Content::Cancel(_), Some(request)) => asked.cancel(request),
-        (Content::Reply(_) | Content::LocateReply(_), None) => counts.strays.push(seen.number)?,
+        (Content::Reply(_) | Content::LocateReply(_), None) => counts.strays.add(seen.number)?,
         _ => {}
     }
     Ok(())
@@ -116,10 +116,8 @@ fn tally(
     let content = &seen.message.content;
     if is_request(content) {
         let (octets, operation) = asking_of(content);
-        if let Some(row) = summary.row(key_in(content), operation)? {
-            row.ask(octets, seen.tie.repeats.is_some());
-        }
-        return Ok(());
+        let called = Called::new(alloc, key_in(content), operation)?;
+        return summary.ask(&called, octets, seen.tie.repeats.is_some());
     }
     let (Some(request), Some(_)) = (request, answered_by(seen)) else {
         return Ok(());
@@ -129,10 +127,8 @@ fn tally(
         Some(name) => Some(Vec::from_slice(alloc, name)?),
         None => None,
     };
-    if let Some(row) = summary.row(request.key(), request.operation())? {
-        row.answer(octets, latency, name)?;
-    }
-    Ok(())
+    let called = Called::new(alloc, request.key(), request.operation())?;
+    summary.answer(&called, octets, latency, name)
 }
 
 impl Teller {

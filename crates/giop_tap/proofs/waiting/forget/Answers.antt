@@ -1,8 +1,3 @@
-use Rattle.std.proofs.Common.{◌≡◌, ℕ, Bool, true, false, List, [], cond, None, Option, refl, sym, ap, ◌∙◌}
-use Rattle.std.specs.Global.{Vec}
-use Rattle.std.specs.Option.{option_map_or}
-use Rattle.giop_tap.specs.declared.place.Place.{Place}
-use Rattle.giop_tap.specs.Waiting.{Waits, is_same_place, numbers_in}
 use Rattle.giop_tap.proofs.Kept.{forgotten}
 use Rattle.giop_tap.proofs.waiting.forget.Goals as goal
 

@@ -1,4 +1,4 @@
-use Rattle.std.proofs.Common.{◌≡◌, ℕ, Option, sym, ap, ◌∙◌}
+use Rattle.std.proofs.Common.{◌∙◌}
 use Rattle.giop_tap.specs.Waiting.{later_of}
 use Rattle.giop_tap.proofs.Kept.{latest-either}
 use Rattle.giop_tap.proofs.waiting.latest_asked.Goals as goal

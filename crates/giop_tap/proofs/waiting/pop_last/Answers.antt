@@ -1,7 +1,6 @@
-use Rattle.std.proofs.Common.{◌≡◌, ℕ, List, [], Option, length, slice_get, ◌-◌, cond, Some, is_some, refl, sym, ap, ◌∙◌}
+use Rattle.std.proofs.Common.{◌≡◌, ℕ, List, [], cond, is_some, sym, ap, ◌∙◌}
 use Rattle.std.specs.Global.{Vec}
 use Rattle.std.specs.Option.{option_copied_mut, option_map_or}
-use Rattle.giop_tap.specs.declared.place.Place.{Place}
 use Rattle.giop_tap.specs.Waiting.{is_same_place, last_of, numbers_in, without_last}
 use Rattle.giop_tap.proofs.Kept.{under-cond}
 use Rattle.giop_tap.proofs.Stacks.{popped}

@@ -1,9 +1,9 @@
-use Rattle.std.proofs.Common.{◌≡◌, ℕ, List, Option, None, sym, ap, subst, ◌∙◌, refl}
+use Rattle.std.proofs.Common.{sym, ap, subst, ◌∙◌, refl}
 use Rattle.giop_tap.specs.declared.place.Place.{Place}
 use Rattle.giop_tap.specs.declared.part.Part.{Part}
-use Rattle.giop_tap.specs.declared.part.Part.TheVariants.{Answers, Apart, Asks}
+use Rattle.giop_tap.specs.declared.part.Part.TheVariants.{Apart, Asks}
 use Rattle.giop_tap.specs.declared.sender.Sender.{Sender}
-use Rattle.giop_tap.specs.Pairing.{Asked, is_about, latest, number_of, waiting_after, without_latest}
+use Rattle.giop_tap.specs.Pairing.{is_about, latest, number_of, waiting_after, without_latest}
 use Rattle.giop_tap.specs.Waiting.{AreWaiting, Waits, is_at}
 use Rattle.giop_tap.proofs.Kept.{answered-waiting, asked-waiting, latest-kept, none-meant}
 use Rattle.giop_tap.proofs.waiting.take_part.Goals as goal
