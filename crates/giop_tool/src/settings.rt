@@ -5,7 +5,9 @@ ghost use Rattle.giop_tool.specs.Settings.{IsMeant, IsOfWords};
 
 use crate::help;
 use crate::help::Texts;
-use crate::options::{flag, with_choice, with_engine, with_number, with_numbers, with_required};
+use crate::options::{
+    flag, with_choice, with_engine, with_number, with_numbers, with_required, word_option,
+};
 use crate::tracing::Tracing;
 use clap::builder::ValueParser;
 use clap::error::ErrorKind;
@@ -95,7 +97,8 @@ fn trace_command<'a>(alloc: Global) -> Result<Command<'a>, AllocError> {
         .arg(flag(alloc, "resume", help::RESUME))?
         .arg(flag(alloc, "json", help::JSON))?
         .arg(flag(alloc, "bodies", help::BODIES))?
-        .arg(flag(alloc, "clock", help::CLOCK))?;
+        .arg(flag(alloc, "clock", help::CLOCK))?
+        .arg(word_option(alloc, "types", "FILE", help::TYPES))?;
     with_choice(alloc, command)
 }
 
@@ -261,6 +264,7 @@ fn tracing_of<'a>(words: &ArgMatches<'a>) -> Tracing<'a> {
     let input = input_of(words);
     Tracing {
         input,
+        types: words.get_str("types"),
         options: Options {
             is_raw: input.form == Form::Raw,
             resumes: words.get_flag("resume"),
