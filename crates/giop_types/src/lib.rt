@@ -22,6 +22,7 @@ mod texts;
 mod typed;
 
 // types in order, and the values of a body
+pub use shape::{Case, Member, Plain, Shape};
 pub use signature::Signature;
 
 // a table, and why it is refused
