@@ -29,6 +29,7 @@ SECONDS = {
     "lemonrudder": 635,
     "counter": 40,
     "giop_text": 86,
+    "giop_types": 165,
     "giop_run": 322,
     "giop_tap": 99,
     "giop_lines": 243,

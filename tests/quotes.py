@@ -27,7 +27,7 @@ HEADLINE = (
 # the headings of the page of a library; others may stand between them
 HEADINGS = ["What it is for", "What it promises", "An example", "Left out"]
 # the libraries whose page has an example that is a program's, or stands on another page
-EXAMPLE_ELSEWHERE = ("ft_log", "giop_lines", "giop_tap", "giop_trace", "lemonrudder")
+EXAMPLE_ELSEWHERE = ("ft_log", "giop_lines", "giop_tap", "giop_trace", "giop_types", "lemonrudder")
 # the first program of each language
 FIRST = {
     "c": "examples/first.c",

@@ -5,6 +5,7 @@ use crate::caught_forwards::{put_forward, put_key};
 use crate::left::Left;
 use crate::lines::{
     Earlier, put_count, put_earlier, put_ft_line, put_system_exception, put_user_exception,
+    put_values,
 };
 use crate::looks::Looks;
 use crate::moments::moment_of;
@@ -259,6 +260,7 @@ fn put_lines(
     };
     let number = shown.seen.number;
     let repeats = shown.seen.tie.repeats;
+    let values = shown.values;
     let version = shown.seen.message.version;
     let order = shown.seen.message.order;
     write!(text, "{number} ")?;
@@ -285,6 +287,7 @@ fn put_lines(
         objects,
         text,
     )?;
+    put_values(values, text)?;
     text.push_str(&forward)
 }
 

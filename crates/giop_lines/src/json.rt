@@ -8,7 +8,7 @@ use crate::json_parts::{
 };
 use crate::objects::Objects;
 use crate::printing::Printer;
-use crate::reports::{caught_time, direction_name, frame_of, put_object};
+use crate::reports::{caught_time, direction_name, frame_of, put_object_with};
 use crate::shown::Shown;
 use cdr_core::Order;
 use giop_core::{
@@ -310,6 +310,7 @@ pub(crate) fn put_message(
     objects: &mut Objects,
     text: &mut String,
 ) -> Result<(), AllocError> {
+    let values = shown.values;
     let object = message_object(printer, shown, caught, objects)?;
-    put_object(printer.alloc, &object, text)
+    put_object_with(printer.alloc, &object, values, text)
 }

@@ -229,12 +229,27 @@ fn put_cancel(
     text.push('\n')
 }
 
+/// Appends the line of what a table of types tells of a message, if it does.
+pub(crate) fn put_values(values: Option<&str>, text: &mut String) -> Result<(), AllocError> {
+    match values {
+        Some(values) => write!(text, "  {values}\n"),
+        None => Ok(()),
+    }
+}
+
 /// Appends the lines of a message.
 pub(crate) fn put_message(
     alloc: Global,
     shown: Shown,
     text: &mut String,
 ) -> Result<(), AllocError> {
+    let values = shown.values;
+    put_message_lines(alloc, shown, text)?;
+    put_values(values, text)
+}
+
+/// Appends the lines of what a message says itself.
+fn put_message_lines(alloc: Global, shown: Shown, text: &mut String) -> Result<(), AllocError> {
     let earlier = shown.earlier();
     let number = shown.seen.number;
     let sender = shown.seen.sender;

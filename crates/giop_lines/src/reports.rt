@@ -119,14 +119,26 @@ pub(crate) fn put_object<T: Serialize>(
     object: &T,
     text: &mut String,
 ) -> Result<(), AllocError> {
-    match serde_json::to_string(alloc, object) {
-        Ok(line) => {
-            text.push_str(&line)?;
-            text.push('\n')
-        }
+    put_object_with(alloc, object, None, text)
+}
+
+/// Appends an object as a line, behind its fields one of values that are JSON already, if there are any.
+pub(crate) fn put_object_with<T: Serialize>(
+    alloc: Global,
+    object: &T,
+    values: Option<&str>,
+    text: &mut String,
+) -> Result<(), AllocError> {
+    let Ok(mut line) = serde_json::to_string(alloc, object) else {
         // the writer of JSON fails for lack of memory alone
-        Err(_) => Err(AllocError),
+        return Err(AllocError);
+    };
+    if let Some(values) = values {
+        line.pop();
+        write!(line, ",\"values\":{values}}}")?;
     }
+    text.push_str(&line)?;
+    text.push('\n')
 }
 
 /// The text of the time of a moment, if it is known.

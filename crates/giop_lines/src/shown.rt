@@ -11,6 +11,8 @@ pub struct Shown<'t> {
     pub end: u64,
     /// The operation of the request that it answers or cancels; none where there is none, or it is a LocateRequest.
     pub operation: Option<&'t [u8]>,
+    /// What a table of types tells of its body, in the form of the lines; none where it tells nothing.
+    pub values: Option<&'t str>,
 }
 
 impl<'t> Shown<'t> {

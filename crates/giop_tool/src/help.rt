@@ -55,6 +55,8 @@ pub(crate) const JSON: &str = "Prints an object of JSON a line";
 
 pub(crate) const BODIES: &str = "Of packets prints the octets of bodies and contexts too";
 
+pub(crate) const TYPES: &str = "Prints arguments and results by the table of types in this file";
+
 pub(crate) const CLOCK: &str = "Of packets prints the time of UTC, and not that since the first";
 
 pub(crate) const OPERATION: &str =

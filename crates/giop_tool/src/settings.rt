@@ -5,7 +5,9 @@ ghost use Rattle.giop_tool.specs.Settings.{IsMeant, IsOfWords};
 
 use crate::help;
 use crate::help::Texts;
-use crate::options::{flag, with_choice, with_engine, with_number, with_numbers, with_required};
+use crate::options::{
+    flag, with_choice, with_engine, with_number, with_numbers, with_required, word_option,
+};
 use crate::tracing::Tracing;
 use clap::builder::ValueParser;
 use clap::error::ErrorKind;
@@ -97,7 +99,8 @@ fn trace_command<'a>(alloc: Global, texts: &'a Texts) -> Result<Command<'a>, All
         .arg(flag(alloc, "bodies", help::BODIES))?
         .arg(flag(alloc, "clock", help::CLOCK))?;
     let keys = ValueParser::unsigned(1, u64::from(u32::MAX));
-    let command = with_number(alloc, command, "keys", &texts.keys, keys)?;
+    let command = with_number(alloc, command, "keys", &texts.keys, keys)?
+        .arg(word_option(alloc, "types", "FILE", help::TYPES))?;
     with_choice(alloc, command)
 }
 
@@ -263,6 +266,7 @@ fn tracing_of<'a>(words: &ArgMatches<'a>) -> Tracing<'a> {
     let input = input_of(words);
     Tracing {
         input,
+        types: words.get_str("types"),
         options: Options {
             is_raw: input.form == Form::Raw,
             resumes: words.get_flag("resume"),

@@ -2,6 +2,7 @@
 
 use giop_run::{DONE, FAILED, Hint, Input, REFUSED};
 use giop_trace::{Failure, Options, Stop, trace};
+use giop_types::{Table, TypesError};
 use std::io::IsTerminal;
 use std::{fs, io};
 
@@ -9,6 +10,8 @@ use std::{fs, io};
 #[derive(Clone, Copy, Debug, PartialEq, Eq)]
 pub(crate) struct Tracing<'a> {
     pub(crate) input: Input<'a>,
+    /// The file of a table of types.
+    pub(crate) types: Option<&'a str>,
     pub(crate) options: Options<'a>,
 }
 
@@ -35,9 +38,9 @@ fn status_of(rt: &HostRuntime, came: Result<bool, Failure>) -> u8 {
 }
 
 /// Traces the file of a name, and returns the exit status.
-fn trace_file(rt: &HostRuntime, options: &Options, name: &str) -> u8 {
+fn trace_file(rt: &HostRuntime, options: &Options, types: Table, name: &str) -> u8 {
     match fs::open(rt, name) {
-        Ok(mut file) => match trace(rt.alloc(), options, &mut file, &mut rt.stdout()) {
+        Ok(mut file) => match trace(rt.alloc(), options, types, &mut file, &mut rt.stdout()) {
             Err(Failure::Input(error)) => refuse(rt, name, &error),
             came => status_of(rt, came),
         },
@@ -51,18 +54,42 @@ fn refuse(rt: &HostRuntime, name: &str, error: &io::Error) -> u8 {
     REFUSED
 }
 
+/// The table of types that is asked for, or the exit status, where it is not one.
+fn types_of(rt: &HostRuntime, file: Option<&str>) -> Result<Table, u8> {
+    let Some(name) = file else {
+        return Ok(Table::none(rt.alloc()));
+    };
+    let text = fs::read(rt, name).map_err(|error| refuse(rt, name, &error))?;
+    match Table::read(rt.alloc(), &text) {
+        Ok(types) => Ok(types),
+        Err(TypesError::Memory) => Err(status_of(rt, Err(Failure::Stop(Stop::Memory)))),
+        Err(error) => {
+            let _ = eprintln!(rt; "giop: {name} {error}");
+            Err(FAILED)
+        }
+    }
+}
+
+/// Traces standard input, and returns the exit status.
+fn trace_input(rt: &HostRuntime, options: &Options, types: Table) -> u8 {
+    let (mut input, mut out) = (rt.stdin(), rt.stdout());
+    match trace(rt.alloc(), options, types, &mut input, &mut out) {
+        Err(Failure::Input(_)) => status_of(rt, Err(Failure::Stop(Stop::Unreadable))),
+        came => status_of(rt, came),
+    }
+}
+
 /// Does what `giop trace` is asked for, and returns the exit status: 0, or 1 where a direction doesn't end after a
-/// message, the input is refused, the output can't be written or an allocation fails, or 2 where the file can't be read.
+/// message, the input or the table of types is refused, the output can't be written or an allocation fails, or 2 where a
+/// file can't be read.
 pub(crate) fn run_trace(rt: &HostRuntime, tracing: &Tracing) -> u8 {
+    let types = match types_of(rt, tracing.types) {
+        Ok(types) => types,
+        Err(status) => return status,
+    };
     let _ = print_waiting(rt, &tracing.input);
     match tracing.input.file {
-        Some(name) => trace_file(rt, &tracing.options, name),
-        None => {
-            let (mut input, mut out) = (rt.stdin(), rt.stdout());
-            match trace(rt.alloc(), &tracing.options, &mut input, &mut out) {
-                Err(Failure::Input(_)) => status_of(rt, Err(Failure::Stop(Stop::Unreadable))),
-                came => status_of(rt, came),
-            }
-        }
+        Some(name) => trace_file(rt, &tracing.options, types, name),
+        None => trace_input(rt, &tracing.options, types),
     }
 }

@@ -24,6 +24,7 @@ mod steps;
 mod stop;
 mod telling;
 mod text;
+mod values;
 mod yaml;
 
 // what `giop trace` does

@@ -10,6 +10,7 @@ use crate::text::Text;
 use giop_frames::Limits;
 use giop_lines::{Endpoints, Format, Printer};
 use giop_text::is_capture;
+use giop_types::Table;
 use std::alloc::{AllocError, Global};
 use std::io::{BufWriter, Read, Write};
 
@@ -141,7 +142,7 @@ impl<R: Read> Run<'_, R> {
 }
 
 /// What prints and counts the messages that are asked for.
-fn teller_of(alloc: Global, options: &Options) -> Result<Teller, AllocError> {
+fn teller_of(alloc: Global, options: &Options, types: Table) -> Result<Teller, AllocError> {
     let printer = Printer {
         alloc,
         format: options.format,
@@ -149,18 +150,19 @@ fn teller_of(alloc: Global, options: &Options) -> Result<Teller, AllocError> {
         is_clock: options.is_clock,
     };
     let chooser = Chooser::new(alloc, &options.choice)?;
-    Ok(Teller::new(alloc, printer, chooser, options.is_summary))
+    Ok(Teller::new(alloc, printer, chooser, types, options.is_summary))
 }
 
-/// Traces the connections in an input under the default limits, as it comes, and prints a line for each message, and at
-/// the end what was counted. Returns whether each direction ends after a message, with nothing left over.
+/// Traces the connections in an input under the default limits, as it comes, and prints a line for each message, what
+/// the types tell of its body, and at the end what was counted. Returns whether each direction ends after a message, with nothing left over.
 pub fn trace<R: Read, W: Write>(
     alloc: Global,
     options: &Options,
+    types: Table,
     input: &mut R,
     out: &mut W,
 ) -> Result<bool, Failure> {
-    let Ok(teller) = teller_of(alloc, options) else {
+    let Ok(teller) = teller_of(alloc, options, types) else {
         return Err(Failure::Stop(Stop::Memory));
     };
     let mut out = match BufWriter::new(alloc, out) {

@@ -5,10 +5,12 @@ use crate::choice::{Chooser, key_in};
 use crate::open::Open;
 use crate::sink::Sink;
 use crate::stop::Stop;
+use crate::values::values_in;
 use giop_core::{Body, Content, LocateStatus, ReplyStatus};
 use giop_lines::{Called, Counts, Objects, Printer, Shown, Summary, time_between};
 use giop_tap::Seen;
 use giop_text::{exception_id, exception_name, system_exception};
+use giop_types::Table;
 use std::alloc::{AllocError, Global};
 use std::io::Write;
 
@@ -35,6 +37,8 @@ pub(crate) struct Teller {
     pub chooser: Chooser,
     /// What is counted of calls, where it is that what is printed, and no messages.
     summary: Option<Summary>,
+    /// The types of bodies.
+    types: Table,
     pub counts: Counts,
 }
 
@@ -133,7 +137,13 @@ fn tally(
 
 impl Teller {
     /// Before the first message.
-    pub fn new(alloc: Global, printer: Printer, chooser: Chooser, is_summary: bool) -> Teller {
+    pub fn new(
+        alloc: Global,
+        printer: Printer,
+        chooser: Chooser,
+        types: Table,
+        is_summary: bool,
+    ) -> Teller {
         Teller {
             alloc,
             printer,
@@ -146,6 +156,7 @@ impl Teller {
             } else {
                 None
             },
+            types,
             counts: Counts::new(alloc),
         }
     }
@@ -253,9 +264,18 @@ impl Teller {
             return Ok(());
         }
         let caught = open.caught(seen.sender, beginning, latency);
+        let operation = self.asked.operation(request);
+        let values = values_in(
+            self.alloc,
+            &self.types,
+            self.printer.format,
+            &seen.message.content,
+            operation,
+        )?;
         let shown = Shown {
             end: open.end(seen.sender),
-            operation: self.asked.operation(request),
+            operation,
+            values: values.as_deref(),
             seen,
         };
         let text = self

@@ -1,0 +1,2 @@
+-- What the octets of a body are by types.
+pub mod Reading

@@ -1,0 +1,27 @@
+//! Operations and what their bodies have.
+
+use crate::signature::Signature;
+
+/// An operation of an interface: what the bodies of its requests and of its replies have.
+#[derive(Debug, Drop)]
+pub(crate) struct Operation {
+    pub arguments: Signature,
+    pub results: Signature,
+}
+
+/// A side of an operation.
+#[derive(Clone, Copy, Debug, PartialEq, Eq)]
+pub(crate) enum Part {
+    Arguments,
+    Results,
+}
+
+impl Operation {
+    /// What the bodies of one side have.
+    pub fn side(&self, part: Part) -> &Signature {
+        match part {
+            Part::Arguments => &self.arguments,
+            Part::Results => &self.results,
+        }
+    }
+}

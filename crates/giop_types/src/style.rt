@@ -1,0 +1,10 @@
+//! In which form values are printed.
+
+/// In which form values are printed.
+#[derive(Clone, Copy, Debug, PartialEq, Eq)]
+pub enum Style {
+    /// As a person reads them.
+    Words,
+    /// As a value of JSON.
+    Json,
+}
