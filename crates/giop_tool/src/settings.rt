@@ -99,8 +99,12 @@ fn trace_command<'a>(alloc: Global, texts: &'a Texts) -> Result<Command<'a>, All
         .arg(flag(alloc, "bodies", help::BODIES))?
         .arg(flag(alloc, "clock", help::CLOCK))?;
     let keys = ValueParser::unsigned(1, u64::from(u32::MAX));
-    let command = with_number(alloc, command, "keys", &texts.keys, keys)?
-        .arg(word_option(alloc, "types", "FILE", help::TYPES))?;
+    let command = with_number(alloc, command, "keys", &texts.keys, keys)?.arg(word_option(
+        alloc,
+        "types",
+        "FILE",
+        help::TYPES,
+    ))?;
     with_choice(alloc, command)
 }
 
