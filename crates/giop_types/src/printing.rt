@@ -1,6 +1,6 @@
 //! Values in lines, by the names of their types.
 
-use crate::shape::{Case, Member, Plain, Shape};
+use crate::shape::{Member, Plain, Shape};
 use crate::style::Style;
 use crate::texts::{put_char, put_double, put_float, put_octets, put_string, put_word};
 use cdr_core::Val;
@@ -92,10 +92,10 @@ fn put_value(
             put_members(alloc, style, members, values, text)?;
             text.push('}')
         }
-        (Shape::Union(switch, cases, default), Val::Union(label, value)) => {
+        (Shape::Union(switch, _, _), Val::Union(label, value)) => {
             put_label(alloc, style, switch, label, text)?;
             if let Some(value) = value {
-                put_held(alloc, style, cases, default, label, value, text)?;
+                put_held(alloc, style, shape, label, value, text)?;
             }
             text.push('}')
         }
@@ -186,12 +186,14 @@ fn label_of(value: &Val) -> Option<i128> {
 fn put_held(
     alloc: Global,
     style: Style,
-    cases: &[Case],
-    default: &Option<Box<Member>>,
+    union: &Shape,
     label: &Val,
     value: &Val,
     text: &mut String,
 ) -> Result<(), AllocError> {
+    let Shape::Union(_, cases, default) = union else {
+        return Ok(());
+    };
     let label = label_of(label);
     for case in cases {
         if Some(case.label) == label {

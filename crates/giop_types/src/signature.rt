@@ -1,31 +1,22 @@
 //! Types in order, and the values of a body.
 
 ghost use Rattle.std.specs.Prelude.{◌<◌, ◌^◌, IfOk};
+ghost use Rattle.cdr_core.specs.Fitting.{AreValid};
+ghost use Rattle.cdr_core.specs.View as view;
 ghost use Rattle.giop_types.specs.Reading.{Has};
+ghost use Rattle.giop_types.specs.Validity.{are_valid_prop};
 
 use crate::forms::forms_of;
 use crate::shape::Member;
 use cdr_core::{CdrError, Order, Ty, Val, are_valid, read_list};
 use std::alloc::{AllocError, Global};
-use std::marker::Model;
 
 /// Members that stand one after another in a body: their names and types.
 #[derive(Debug, Drop)]
 pub struct Signature {
     members: Vec<Member>,
     forms: Vec<Ty>,
-}
-
-impl Model for Signature {
-    ghost use Rattle.cdr_core.specs.Fitting.{AreValid};
-    ghost use Rattle.cdr_core.specs.Form.{Forms};
-    ghost use Rattle.cdr_core.specs.View.{forms_of};
-
-    ghost Value = { Forms };
-
-    ghost view = { λ s. forms_of s.forms.items };
-
-    ghost invariant = { λ s. AreValid (forms_of s.forms.items) };
+    ghost valid: { AreValid (view.forms_of forms.items) } by { are_valid_prop (view.forms_of forms.items) },
 }
 
 impl Signature {
@@ -53,7 +44,7 @@ impl Signature {
         octets: &[u8],
     ) -> Result<Option<Vec<Val>>, AllocError>
         requires { at < 2 ^ 32 }
-        ensures { IfOk result (λ values. Has self.now order at octets.now values) }
+        ensures { IfOk result (λ values. Has (view.forms_of self.now.forms.items) order at octets.now values) }
     {
         match read_list(alloc, &self.forms, order, at, octets) {
             Ok((values, count)) if count == octets.len() => Ok(Some(values)),
