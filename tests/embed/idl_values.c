@@ -103,6 +103,12 @@ static void arguments(void) {
   close(listener);
 }
 
+static bool is_system(const lr_idl_raised *raised, const char *name, uint32_t completed) {
+  char id[80];
+  snprintf(id, sizeof id, "IDL:omg.org/CORBA/%s:1.0", name);
+  return raised->id != NULL && strcmp(raised->id, id) == 0 && raised->completed == completed && raised->members == NULL;
+}
+
 /* A server that can't be reached: as many wait there already as may. */
 static void unreachable(void) {
   uint16_t port;
@@ -117,8 +123,11 @@ static void unreachable(void) {
   WANT(lr_idl_caller_open(&caller, "127.0.0.1", port), LR_OK);
   caller.patience = LR_SECOND / 5;
   const time_t begun = time(NULL);
-  WANT(Shapes_Desk__get_size((Shapes_Desk){&caller, LR_TEXT("desk")}, NULL, NULL), LR_E_EXPIRED);
+  lr_idl_raised raised = LR_IDL_RAISED;
+  WANT(Shapes_Desk__get_size((Shapes_Desk){&caller, LR_TEXT("desk")}, NULL, &raised), LR_ENDED_SYSTEM);
+  CHECK(is_system(&raised, "TRANSIENT", LR_COMPLETED_NO));
   CHECK(time(NULL) - begun < 20);
+  lr_idl_raised_free(&raised);
   lr_idl_caller_close(&caller);
   for (int index = 0; index < 4; index++) close(waiting[index]);
   close(listener);
@@ -413,12 +422,6 @@ static static_register odd;
 static int64_t call_by(const lr_idl_object *object, const lr_idl_operation *operation, const void *argument,
                        void *result, lr_idl_raised *raised) {
   return lr_idl_invoke(object, operation, (const void *const[]){argument}, (void *const[]){result}, raised);
-}
-
-static bool is_system(const lr_idl_raised *raised, const char *name, uint32_t completed) {
-  char id[80];
-  snprintf(id, sizeof id, "IDL:omg.org/CORBA/%s:1.0", name);
-  return raised->id != NULL && strcmp(raised->id, id) == 0 && raised->completed == completed && raised->members == NULL;
 }
 
 static void results(void) {

@@ -32,7 +32,9 @@ static void arguments() {
   WANT(desk.keep(held).error() == LR_E_RANGE);
   WANT(desk.tell(std::string("a\0b", 3)).error() == LR_E_TEXT);
   caller.patience(std::chrono::milliseconds(50));
-  WANT(desk.tell("a").error() == LR_E_EXPIRED);
+  const auto told = desk.tell("a");
+  WANT(told.system() != nullptr && told.system()->id == "IDL:omg.org/CORBA/TRANSIENT:1.0");
+  WANT(told.system() != nullptr && told.system()->completed == lr::Completed::no);
 }
 
 static void octets() {
