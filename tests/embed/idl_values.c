@@ -133,6 +133,36 @@ static void unreachable(void) {
   close(listener);
 }
 
+/* Takes what comes, and is gone. */
+static void *take_and_leave(void *listener) {
+  char room[1024];
+  int fd = accept(*(int *)listener, NULL, NULL);
+  CHECK(recv(fd, room, sizeof room, 0) > 0);
+  close(*(int *)listener);
+  close(fd);
+  return NULL;
+}
+
+/* A server that is gone amid a call, which it may have performed. */
+static void left_alone(void) {
+  uint16_t port;
+  int listener = silent(&port);
+  pthread_t thread;
+  lr_idl_caller caller = LR_IDL_CALLER;
+  lr_idl_raised raised = LR_IDL_RAISED;
+  CHECK(pthread_create(&thread, NULL, take_and_leave, &listener) == 0);
+  WANT(lr_idl_caller_open(&caller, "127.0.0.1", port), LR_OK);
+  caller.patience = LR_SECOND / 2;
+  const Shapes_Desk desk = {&caller, LR_TEXT("desk")};
+  WANT(Shapes_Desk__get_size(desk, NULL, &raised), LR_ENDED_SYSTEM);
+  CHECK(is_system(&raised, "COMM_FAILURE", LR_COMPLETED_MAYBE));
+  WANT(Shapes_Desk__get_size(desk, NULL, &raised), LR_ENDED_SYSTEM);
+  CHECK(is_system(&raised, "TRANSIENT", LR_COMPLETED_NO));
+  lr_idl_raised_free(&raised);
+  lr_idl_caller_close(&caller);
+  CHECK(pthread_join(thread, NULL) == 0);
+}
+
 #define GET(TYPE, ...) got_of(&TYPE##__type, (const unsigned char[]){__VA_ARGS__}, sizeof(unsigned char[]){__VA_ARGS__})
 
 /* What comes of reading octets. At an error the place is as it was, and the value all zero. */
@@ -846,6 +876,7 @@ int main(void) {
   pthread_t thread;
   arguments();
   unreachable();
+  left_alone();
   octets();
   rooms();
   names();
