@@ -22,6 +22,8 @@ from tests.programs import ROOT, needs, tool
 
 TYPES = idl_test.TYPES
 BANK = (os.path.join(EXAMPLES, "idl", "bank.c"), os.path.join(EXAMPLES, "bank.idl"))
+# the allocations that are refused, one after another; a call makes fewer
+MOST_REFUSED = 140
 # how programs in C are compiled and run: the compiler, its flags, and the words before the program
 WAYS = {
     "gcc": ("gcc", ["-O2"], []), "clang": ("clang", ["-O2"], []),
@@ -336,6 +338,17 @@ class Bank(unittest.TestCase):
         for bank in self.banks():
             with self.subTest(bank[0]):
                 idl_roads.crossed(self, bank, road)
+
+    def test_want_of_memory(self) -> None:
+        """With one allocation of its client refused, each once, it says so or goes on over forwards; it leaks nothing."""
+        flags = [os.path.join(EMBED, "refusing.c"), "-Wl,--wrap=malloc", "-Wl,--wrap=realloc"]
+        bank = words_of("gcc, sanitized", "bank_refusing", *BANK, flags=flags)
+        for road in (idl_roads.forward, idl_roads.forward_to_nobody):
+            found = [idl_roads.ended(bank, road, REFUSED=str(number)) for number in range(1, MOST_REFUSED)]
+            self.assertEqual({(status, said) for _, status, said in found},
+                             {(0, "5"), (1, "an allocation failed, and nothing has changed")})
+            self.assertEqual(found[-1][1:], (0, "5"))
+            self.assertLessEqual(max(len(made.performed) for made, _, _ in found), 1)
 
     @staticmethod
     @functools.lru_cache(maxsize=None)

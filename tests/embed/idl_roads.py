@@ -4,6 +4,7 @@ listens, servers that are gone amid a call, that answer TRANSIENT, and that lead
 from __future__ import annotations
 
 import asyncio
+import os
 import socket
 import unittest
 from collections.abc import Awaitable, Callable
@@ -78,7 +79,7 @@ class Bank:
         writer.close()
 
     async def before(self, *steps: Step) -> int:
-        """The port of a server that takes a step with each request, and answers no more."""
+        """The port of a server that takes a step with each request, the last one again and again."""
         left = list(steps)
 
         async def serve(reader: asyncio.StreamReader, writer: asyncio.StreamWriter) -> None:
@@ -86,7 +87,7 @@ class Bank:
             while octets := await reader.read(4096):
                 for message in assembler.feed(octets):
                     self.asked.append((message.ft.client, message.ft.retention_id))
-                    step = left.pop(0)
+                    step = left.pop(0) if len(left) > 1 else left[0]
                     if step is None:
                         await self.perform(octets)
                         listener.close()
@@ -130,15 +131,22 @@ ROADS: dict[str, Callable[[Bank], Awaitable[lr.Ior]]] = {
     one.__name__: one for one in (profiles, components, transient, forward, forward_of_what_acted, forward_to_nobody)}
 
 
-def crossed(test: unittest.TestCase, client: list[str], road: Callable[[Bank], Awaitable[lr.Ior]]) -> None:
-    """A client makes a deposit over a road: under one number, and it acts once."""
-    async def main() -> None:
+def ended(client: list[str], road: Callable[[Bank], Awaitable[lr.Ior]], **environment: str) -> tuple[Bank, int, str]:
+    """A client makes a deposit over a road: the bank, the status of the client, and what it printed."""
+    async def main() -> tuple[Bank, int, str]:
         async with Bank() as bank:
             words = [*client, "deposit", str(await road(bank)), "alice", "5"]
-            process = await asyncio.create_subprocess_exec(*words, stdout=asyncio.subprocess.PIPE)
+            process = await asyncio.create_subprocess_exec(
+                *words, env={**os.environ, **environment}, stdout=asyncio.subprocess.PIPE, stderr=asyncio.subprocess.STDOUT)
             said, _ = await asyncio.wait_for(process.communicate(), SECONDS)
-            test.assertEqual((process.returncode, said.decode().strip()), (0, "5"))
-            test.assertEqual(len(bank.performed), 1)
-            test.assertEqual({*bank.asked, *bank.performed}, {*bank.performed})
-            test.assertTrue(bank.asked)
-    asyncio.run(main())
+            return bank, process.returncode or 0, said.decode().strip()
+    return asyncio.run(main())
+
+
+def crossed(test: unittest.TestCase, client: list[str], road: Callable[[Bank], Awaitable[lr.Ior]]) -> None:
+    """A client makes a deposit over a road: under one number, and it acts once."""
+    bank, status, said = ended(client, road)
+    test.assertEqual((status, said), (0, "5"))
+    test.assertEqual(len(bank.performed), 1)
+    test.assertEqual({*bank.asked, *bank.performed}, {*bank.performed})
+    test.assertTrue(bank.asked)
