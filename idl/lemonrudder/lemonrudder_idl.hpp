@@ -671,12 +671,17 @@ class Caller {
       if (!size) return false;
       if (*size == 0) return true;
       is_sent_ = true;
-      for (std::size_t sent = 0; sent < *size;) {
-        const ssize_t count = send(socket_.fd(), room + sent, *size - sent, MSG_NOSIGNAL);
-        if (count <= 0) return false;
-        sent += static_cast<std::size_t>(count);
-      }
+      if (!send_all({room, *size})) return false;
     }
+  }
+
+  bool send_all(Octets octets) {
+    while (!octets.empty()) {
+      const ssize_t count = send(socket_.fd(), octets.data(), octets.size(), MSG_NOSIGNAL);
+      if (count <= 0) return false;
+      octets = octets.from(static_cast<std::size_t>(count));
+    }
+    return true;
   }
 
   /* What TRANSIENT left pending is due again: here, if there is no other address. False: it is left for the next. */

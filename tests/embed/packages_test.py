@@ -252,18 +252,22 @@ class Packages(unittest.TestCase):
             for each in (f"man/man1/{name}.1.gz", f"bash-completion/completions/{name}"):
                 self.assertTrue(os.path.exists(f"{root}/usr/share/{each}"), each)
 
-    @programs.needs("dpkg", "dpkg-deb", "pkg-config")
-    def test_debian_idl(self):
-        """Beside them in that root, omniidl finds the backend by itself. The banks in C and C++ stand on the package for
-        developers alone, that in Python on its own one."""
-        root, omniidl = self.root(), programs.tool("omniidl")
-        if shutil.which("omniidl") != "/usr/bin/omniidl":
+    def omniidl_below(self, root):
+        """The words that run Debian's omniidl from a root that it is copied to."""
+        if programs.tool("omniidl") != "/usr/bin/omniidl":
             raise unittest.SkipTest(f"{programs.NEEDS}Debian's omniidl")
         for name in run(["dpkg", "-L", "omniidl"]).splitlines():
             if name.startswith(("/usr/lib/", "/usr/bin/")) and not os.path.isdir(name):
                 os.makedirs(os.path.dirname(root + name), exist_ok=True)
                 shutil.copy(name, root + name, follow_symlinks=False)
-        made_in = self.generates(["/usr/bin/python3", root + omniidl], *LANGUAGES, PYTHONPATH=f"{root}/usr/lib/omniidl")
+        return ["/usr/bin/python3", f"{root}/usr/bin/omniidl"]
+
+    @programs.needs("dpkg", "dpkg-deb", "pkg-config")
+    def test_debian_idl(self):
+        """Beside them in that root, omniidl finds the backend by itself. The banks in C and C++ stand on the package for
+        developers alone, that in Python on its own one."""
+        root = self.root()
+        made_in = self.generates(self.omniidl_below(root), *LANGUAGES, PYTHONPATH=f"{root}/usr/lib/omniidl")
         for name in glob.glob(f"{made_in}/lemonrudder_idl.*"):
             os.remove(name)
         found = {**os.environ, "PKG_CONFIG_PATH": f"{root}/{LIB}/pkgconfig"}
