@@ -14,6 +14,7 @@ from scripts.kit import are_of_run, load_kit
 
 LIBRARY = "lemonrudder"
 EMBED = os.path.join(ROOT, "embed")
+IDL = os.path.join(ROOT, "idl", LIBRARY)
 ARCHIVE = os.path.join(ROOT, "crates", LIBRARY, "out", f"lib{LIBRARY}.a")
 TOOLS = ("cc", "ar", "ld", "objcopy")
 # what pkg-config and CMake read: where it is put below lib/, and what it is made of, in embed/
@@ -22,6 +23,10 @@ PACKAGES = {
     f"cmake/{LIBRARY}/{LIBRARY}-config.cmake": f"{LIBRARY}-config.cmake.in",
     f"cmake/{LIBRARY}/{LIBRARY}-config-version.cmake": f"{LIBRARY}-config-version.cmake.in",
 }
+
+# what is made of IDL stands on these: where each is put below the prefix, and its name in idl/
+RUNTIMES = {f"include/{LIBRARY}_idl.h": f"{LIBRARY}_idl.h", f"include/{LIBRARY}_idl.hpp": f"{LIBRARY}_idl.hpp",
+            f"share/{LIBRARY}/{LIBRARY}_idl.c": f"{LIBRARY}_idl.c"}
 
 
 def series(version):
@@ -117,6 +122,9 @@ def install(prefix, destdir=""):
     make_shared(shared, archive)
     for header in os.listdir(os.path.join(EMBED, "include")):
         shutil.copyfile(os.path.join(EMBED, "include", header), os.path.join(include, header))
+    for name, source in RUNTIMES.items():
+        os.makedirs(os.path.dirname(os.path.join(prefix, name)), exist_ok=True)
+        shutil.copyfile(os.path.join(IDL, source), os.path.join(prefix, name))
     for name, source in PACKAGES.items():
         os.makedirs(os.path.dirname(os.path.join(lib, name)), exist_ok=True)
         with open(os.path.join(lib, name), "w", encoding="utf-8") as file:

@@ -42,6 +42,9 @@ TEXT = {
     "python": ("GIOP and IIOP for Python",
                "Clients and servers over asyncio by liblemonrudder: requests that are\n sent again act once, also "
                "across restarts."),
+    "idl": ("stubs and servants from IDL, over liblemonrudder",
+            "A backend of omniidl, the IDL compiler of omniORB: of an IDL file it makes\n typed stubs and servants in "
+            "Python, C++, C and Rust, over GIOP and IIOP."),
     "relay": ("exactly once between ORBs that know nothing of it",
               "The program lemonrudder stands before servers, and beside clients: a\n call that is sent again acts "
               "once."),
@@ -108,22 +111,45 @@ def copy_program(path: str, name: str, top: str) -> None:
         copy(completion, f"{top}/share/bash-completion/completions/{name}")
 
 
+def copy_sources(source: str, path: str) -> None:
+    """Copies the modules in Python of a folder, and the sources that are beside them."""
+    for name in sorted(os.listdir(source)):
+        if name.endswith((".py", ".typed", ".c", ".h", ".hpp")):
+            copy(os.path.join(source, name), f"{path}/{name}")
+
+
+def copy_runtimes(top: str) -> None:
+    """Copies what is made of IDL in C and C++ stands on below a folder."""
+    for name, source in library.RUNTIMES.items():
+        copy(os.path.join(library.IDL, source), f"{top}/{name}")
+
+
 def programs() -> dict[str, str]:
     """The programs that are built, by their names."""
     return {name: path for name, path in (("giop", PROGRAM), ("lemonrudder", RELAY)) if os.path.exists(path)}
+
+
+def package_files() -> dict[str, str]:
+    """What pkg-config and CMake read, by its path below lib/."""
+    return {name: library.package(source, VERSION) for name, source in library.PACKAGES.items()}
 
 
 # ---- the tarball ----
 
 
 def make_tarball(prefix: str, folder: str) -> str:
-    """A tarball of library, headers, programs, manual pages and completions, which may be unpacked anywhere."""
+    """A tarball of library, headers, backend for IDL, programs, manual pages and completions, which may be unpacked
+    anywhere."""
     name = f"{NAME}-{VERSION}-{TRIPLET}"
     path = os.path.join(folder, f"{name}.tar.gz")
     with tempfile.TemporaryDirectory() as work:
         top = os.path.join(work, name)
         for part in ("lib", "include"):
             shutil.copytree(os.path.join(prefix, part), os.path.join(top, part), symlinks=True)
+        copy_runtimes(top)
+        for name, text in package_files().items():
+            put(f"{top}/lib/{name}", text.encode())
+        copy_sources(library.IDL, f"{top}/share/{NAME}/idl/{NAME}")
         for program, source in programs().items():
             copy_program(source, program, top)
         for document in DOCUMENTS:
@@ -159,7 +185,7 @@ def as_packed(entry: tarfile.TarInfo) -> tarfile.TarInfo:
 
 @dataclass
 class Debian:
-    """A Debian package: what is in it, put by `fill` below a folder, and what its control file says."""
+    """A Debian package: what is in it, put by `fill` below a folder, and what its control files say."""
 
     name: str
     text: str
@@ -167,6 +193,8 @@ class Debian:
     architecture: str = "amd64"
     fields: dict[str, str] = field(default_factory=dict)
     shlibs: str = ""
+    # the folder of its modules in Python
+    modules: str = ""
 
     def control(self, size: int) -> str:
         short, long = TEXT[self.text]
@@ -176,6 +204,11 @@ class Debian:
                 f"{HOMEPAGE}Description: {short}\n {long}\n")
 
 
+# where Debian's Python looks for modules, and its omniidl for backends
+MODULES = f"/usr/lib/python3/dist-packages/{NAME}"
+BACKEND = f"/usr/lib/omniidl/omniidl_be/{NAME}"
+# what Python made of modules goes with them
+PRERM = "#!/bin/sh\nset -e\nrm -rf {modules}/__pycache__\n"
 LIBRARY_PACKAGE = f"lib{NAME}{SERIES}"
 LIBC = "libc6 (>= 2.34)"
 PACKAGES = [
@@ -184,8 +217,10 @@ PACKAGES = [
            fields={"Multi-Arch": "same", "Depends": LIBC, "Provides": f"lib{NAME}{VERSION.partition('.')[0]}"}),
     Debian(f"lib{NAME}-dev", "dev", "libdevel",
            fields={"Multi-Arch": "same", "Depends": f"{LIBRARY_PACKAGE} (= {VERSION}-1)"}),
-    Debian(f"python3-{NAME}", "python", "python", "all",
+    Debian(f"python3-{NAME}", "python", "python", "all", modules=MODULES,
            fields={"Depends": f"python3 (>= 3.8), {LIBRARY_PACKAGE} (>= {VERSION})"}),
+    Debian(f"{NAME}-idl", "idl", "devel", "all", modules=BACKEND,
+           fields={"Depends": "omniidl, python3 (>= 3.8)", "Suggests": f"lib{NAME}-dev, python3-{NAME}"}),
     Debian(f"{NAME}-relay", "relay", "net", fields={"Depends": f"{LIBC}, libsqlite3-0, libssl3, libgcc-s1"}),
 ]
 
@@ -210,12 +245,12 @@ def fill(package: Debian, top: str, prefix: str) -> bool:
         os.symlink(f"lib{NAME}.so.{VERSION}", f"{lib}/{library.SONAME}")
     elif package.text == "dev":
         shutil.copytree(os.path.join(prefix, "include"), f"{top}/usr/include")
+        copy_runtimes(f"{top}/usr")
         fill_dev(lib, made)
-    else:
-        source = os.path.join(ROOT, "bindings", "python", NAME)
-        for name in sorted(os.listdir(source)):
-            if name.endswith((".py", ".typed")):
-                copy(os.path.join(source, name), f"{top}/usr/lib/python3/dist-packages/{NAME}/{name}")
+    elif package.text == "idl":
+        copy_sources(library.IDL, f"{top}{BACKEND}")
+    elif package.text == "python":
+        copy_sources(os.path.join(ROOT, "bindings", "python", NAME), f"{top}{MODULES}")
     return True
 
 
@@ -224,9 +259,8 @@ def fill_dev(lib: str, made: str) -> None:
     copy(f"{made}/lib{NAME}.a", f"{lib}/lib{NAME}.a")
     subprocess.run(["strip", "--strip-debug", "--enable-deterministic-archives", f"{lib}/lib{NAME}.a"], check=True)
     os.symlink(f"lib{NAME}.so.{VERSION}", f"{lib}/lib{NAME}.so")
-    for name in library.PACKAGES:
-        with open(os.path.join(made, name), encoding="utf-8") as file:
-            put(f"{lib}/{name}", deeper(file.read()).encode())
+    for name, text in package_files().items():
+        put(f"{lib}/{name}", deeper(text).encode())
 
 
 def deeper(text: str) -> str:
@@ -254,6 +288,8 @@ def finish(package: Debian, top: str) -> None:
     if package.shlibs:
         put(f"{top}/DEBIAN/shlibs", package.shlibs.encode())
         put(f"{top}/DEBIAN/triggers", b"activate-noawait ldconfig\n")
+    if package.modules:
+        put(f"{top}/DEBIAN/prerm", PRERM.format(modules=package.modules).encode(), 0o755)
 
 
 def make_debian(prefix: str, folder: str) -> list[str]:

@@ -307,7 +307,7 @@ def packages_are_made_below_a_root(kit: Kit) -> None:
         want(all_of(made), sorted([
             "include/lemonrudder.h", "include/lemonrudder.hpp", "include/lemonrudder_loop.hpp",
             "lib/liblemonrudder.a", "lib/liblemonrudder.so", f"lib/{library.SONAME}",
-            f"lib/liblemonrudder.so.{library.VERSION}", "lib/pkgconfig/lemonrudder.pc",
+            f"lib/liblemonrudder.so.{library.VERSION}", "lib/pkgconfig/lemonrudder.pc", *library.RUNTIMES,
             *(f"lib/cmake/lemonrudder/lemonrudder-{name}.cmake" for name in ("config", "config-version"))]))
         for name in all_of(made):
             with open(os.path.join(made, name), "rb") as file:

@@ -656,9 +656,127 @@ int64_t lr_idl_lacking(const lr_idl_call *call) {
   return lr_server_system(call->server, call->ticket, LR_EX_NO_IMPLEMENT, 0, LR_COMPLETED_NO);
 }
 
+/* ---- addresses ---- */
+
+/* Octets, and a NUL behind them; NULL where there is no memory. */
+static char *copy_of(const void *octets, size_t size) {
+  char *made = malloc(size + 1);
+  if (made == NULL) return NULL;
+  if (size > 0) memcpy(made, octets, size);
+  made[size] = 0;
+  return made;
+}
+
+static void close_road(lr_idl_road *road) {
+  for (uint32_t index = 0; index < road->count; index++) free(road->addresses[index].host);
+  free(road->addresses);
+  free(road->key);
+  *road = (lr_idl_road)LR_IDL_ROAD;
+}
+
+static int64_t add_address(lr_idl_road *road, const void *host, size_t size, uint16_t port) {
+  const lr_idl_address address = {copy_of(host, size), port};
+  lr_idl_address *addresses = realloc(road->addresses, (road->count + 1) * sizeof *addresses);
+  if (addresses != NULL) road->addresses = addresses;
+  if (addresses == NULL || address.host == NULL) {
+    free(address.host);
+    return LR_E_MEMORY;
+  }
+  addresses[road->count++] = address;
+  return LR_OK;
+}
+
+/* What a profile of IIOP says of its object: indices and sizes. */
+struct profile {
+  struct reader in;
+  uint8_t minor;
+  uint16_t port;
+  uint64_t host, host_size, key, key_size;
+};
+
+/* Adds an address of a profile, whose key is that of the first one, or counts for nothing. */
+static int64_t add_of(lr_idl_road *road, const struct profile *one, const void *host, uint64_t size, uint16_t port) {
+  const unsigned char *key = (const unsigned char *)one->in.octets + one->key;
+  if (port == 0) return LR_OK;
+  if (road->key == NULL) {
+    road->key = copy_of(key, (size_t)one->key_size);
+    road->key_size = (size_t)one->key_size;
+  }
+  if (road->key == NULL) return LR_E_MEMORY;
+  if (road->key_size != one->key_size || memcmp(road->key, key, road->key_size) != 0) return LR_OK;
+  if (one->minor < road->version) road->version = one->minor;
+  return add_address(road, host, (size_t)size, port);
+}
+
+/* Reads a host and a port. */
+static int64_t get_address(const struct reader *in, uint64_t *host, uint64_t *size, uint16_t *port) {
+  int64_t done = lr_get_string(in->octets, in->size, in->place, host, size);
+  return done == LR_OK ? lr_get_ushort(in->octets, in->size, in->place, port) : done;
+}
+
+/* Adds the address that a component has, which is an encapsulation. One that is none says nothing. */
+static int64_t add_alternate(lr_idl_road *road, const struct profile *one, const unsigned char *octets, size_t size) {
+  lr_place place = {0, 1, size == 0 ? 2 : octets[0], 0};
+  struct reader in = {octets, size, &place};
+  uint64_t host, length;
+  uint16_t port;
+  if (get_address(&in, &host, &length, &port) < 0) return LR_OK;
+  return add_of(road, one, octets + host, length, port);
+}
+
+/* Adds the addresses that components of a profile have. */
+static int64_t add_components(lr_idl_road *road, const struct profile *one) {
+  enum { TAG_ALTERNATE_IIOP_ADDRESS = 3 };
+  const struct reader *in = &one->in;
+  uint32_t count = 0, tag;
+  uint64_t start, size;
+  int64_t done = lr_get_ulong(in->octets, in->size, in->place, &count);
+  for (; done == LR_OK && count > 0; count--) {
+    done = lr_get_ulong(in->octets, in->size, in->place, &tag);
+    if (done == LR_OK) done = lr_get_octets(in->octets, in->size, in->place, &start, &size);
+    if (done == LR_OK && tag == TAG_ALTERNATE_IIOP_ADDRESS)
+      done = add_alternate(road, one, (const unsigned char *)in->octets + start, (size_t)size);
+  }
+  return done == LR_E_MEMORY ? done : LR_OK;
+}
+
+/* Reads the members of a profile up to its components. */
+static int64_t get_profile(struct profile *one) {
+  const struct reader *in = &one->in;
+  uint8_t major = 0;
+  int64_t done = lr_get_octet(in->octets, in->size, in->place, &major);
+  if (done == LR_OK) done = major == 1 ? lr_get_octet(in->octets, in->size, in->place, &one->minor) : LR_E_VALUE;
+  if (done == LR_OK) done = get_address(in, &one->host, &one->host_size, &one->port);
+  return done == LR_OK ? lr_get_octets(in->octets, in->size, in->place, &one->key, &one->key_size) : done;
+}
+
+/* Adds the addresses of a profile of IIOP. One that is none says nothing. */
+static int64_t add_profile(lr_idl_road *road, const lr_idl_octet__sequence *data) {
+  lr_place place = {0, 1, data->_length == 0 ? 2 : data->_buffer[0], 0};
+  struct profile one = {.in = {data->_buffer, data->_length, &place}};
+  if (get_profile(&one) < 0) return LR_OK;
+  int64_t done = add_of(road, &one, data->_buffer + one.host, one.host_size, one.port);
+  return done < 0 || one.minor == 0 ? done : add_components(road, &one);
+}
+
+/* The road to all addresses of a reference. LR_E_REFERENCE: it has none. */
+static int64_t find_road(lr_idl_road *road, const lr_idl_reference *reference) {
+  enum { TAG_INTERNET_IOP = 0 };
+  int64_t done = LR_OK;
+  for (uint32_t index = 0; done == LR_OK && index < reference->profiles._length; index++) {
+    const lr_idl_profile *profile = &reference->profiles._buffer[index];
+    if (profile->tag == TAG_INTERNET_IOP) done = add_profile(road, &profile->data);
+  }
+  if (done == LR_OK && road->count == 0) done = LR_E_REFERENCE;
+  if (done < 0) close_road(road);
+  return done;
+}
+
 /* ---- a caller ---- */
 
-enum { RANDOM = 16, PIECE = 4096, WAIT = 100, FIRST_DELAY = 20, LAST_DELAY = 1000 };
+enum { PIECE = 4096, WAIT = 100, FIRST_DELAY = 20, LAST_DELAY = 1000, CONNECT_SECONDS = 10 };
+/* (beside LR_OK) a call is to be made again, elsewhere */
+enum { AGAIN = 1 };
 
 static uint64_t now(void) {
   struct timespec time;
@@ -666,92 +784,82 @@ static uint64_t now(void) {
   return lr_moment((uint64_t)time.tv_sec, (uint32_t)time.tv_nsec);
 }
 
-/* Opens a client whose id nobody else has. */
-static int64_t open_client(lr_client *client) {
-  unsigned char random[RANDOM];
-  char id[2 * RANDOM];
-  if (getentropy(random, sizeof random) != 0) return LR_E_RANGE;
-  for (size_t index = 0; index < sizeof id; index++)
-    id[index] = "0123456789abcdef"[random[index / 2] >> (index % 2 * 4) & 15];
-  int64_t done = lr_client_open(client, id, sizeof id);
-  if (done == LR_OK) done = lr_client_set(client, LR_CLIENT_KEEP_TRANSIENT, 1);
+static lr_idl_road *road_of(lr_idl_caller *caller) { return caller->is_led ? &caller->led : &caller->home; }
+
+/* Opens the client anew, under the same id. The next call gets the number after this one. */
+static int64_t open_client(lr_idl_caller *caller, int64_t last) {
+  lr_client client = LR_INIT;
+  int64_t done = lr_client_open(&client, caller->id, sizeof caller->id);
+  if (done == LR_OK) done = lr_client_set(&client, LR_CLIENT_VERSION, road_of(caller)->version);
+  if (done == LR_OK) done = lr_client_set(&client, LR_CLIENT_KEEP_TRANSIENT, 1);
+  if (done == LR_OK) done = lr_client_skip_to(&client, last);
+  if (done == LR_OK) {
+    lr_client_close(&caller->client);
+    caller->client = client;
+    caller->last = last;
+  } else {
+    lr_client_close(&client);
+  }
+  return done;
+}
+
+/* Opens a caller, which takes a road. */
+static int64_t open_caller(lr_idl_caller *caller, lr_idl_road *home) {
+  unsigned char random[sizeof caller->id / 2];
+  lr_idl_caller made = LR_IDL_CALLER;
+  made.patience = 60 * LR_SECOND;
+  made.home = *home;
+  int64_t done = getentropy(random, sizeof random) == 0 ? LR_OK : LR_E_RANGE;
+  for (size_t index = 0; done == LR_OK && index < sizeof made.id; index++)
+    made.id[index] = "0123456789abcdef"[random[index / 2] >> (index % 2 * 4) & 15];
+  if (done == LR_OK) done = open_client(&made, 0);
+  if (done == LR_OK)
+    *caller = made;
+  else
+    close_road(home);
   return done;
 }
 
 int64_t lr_idl_caller_open(lr_idl_caller *caller, const char *host, uint16_t port) {
-  lr_idl_caller made = LR_IDL_CALLER;
-  if (caller->host != NULL) return LR_E_OPEN;
-  made.port = port;
-  made.patience = 60 * LR_SECOND;
-  made.host = malloc(strlen(host) + 1);
-  if (made.host == NULL) return LR_E_MEMORY;
-  memcpy(made.host, host, strlen(host) + 1);
-  int64_t done = open_client(&made.client);
-  if (done == LR_OK)
-    *caller = made;
-  else
-    lr_idl_caller_close(&made);
+  lr_idl_road home = LR_IDL_ROAD;
+  if (caller->home.count > 0) return LR_E_OPEN;
+  int64_t done = add_address(&home, host, strlen(host), port);
+  if (done == LR_OK) return open_caller(caller, &home);
+  close_road(&home);
   return done;
-}
-
-/* A part of a profile, with a NUL behind it; NULL where there is no memory. */
-static char *profile_part(lr_ior *ior, uint32_t index, uint32_t part, uint64_t size) {
-  char *octets = malloc((size_t)size + 1);
-  if (octets == NULL) return NULL;
-  octets[size] = 0;
-  if (lr_ior_part(ior, index, part, octets, (size_t)size) >= 0) return octets;
-  free(octets);
-  return NULL;
-}
-
-/* Opens a caller of what a profile of IIOP names. */
-static int64_t open_at(lr_idl_caller *caller, lr_ior *ior, uint32_t index, const lr_profile *profile) {
-  char *host = profile_part(ior, index, LR_IOR_HOST, profile->host_size);
-  char *key = profile_part(ior, index, LR_IOR_KEY, profile->key_size);
-  int64_t done = host == NULL || key == NULL ? LR_E_MEMORY : lr_idl_caller_open(caller, host, (uint16_t)profile->port);
-  free(host);
-  if (done < 0) {
-    free(key);
-    return done;
-  }
-  caller->key = key;
-  caller->key_size = (size_t)profile->key_size;
-  return LR_OK;
-}
-
-/* The first profile of IIOP. */
-static int64_t first_of(lr_ior *ior, uint32_t *index, lr_profile *profile) {
-  int64_t count = lr_ior_profiles(ior), done = LR_OK;
-  profile->is_iiop = 0;
-  for (*index = 0; done == LR_OK && *index < count; ++*index) {
-    done = lr_ior_profile(ior, *index, profile, sizeof *profile);
-    if (done == LR_OK && profile->is_iiop == 1) return LR_OK;
-  }
-  return done < 0 ? done : LR_E_REFERENCE;
 }
 
 int64_t lr_idl_caller_of(lr_idl_caller *caller, const char *reference) {
-  lr_ior ior = LR_INIT;
-  lr_profile profile;
-  uint32_t index = 0;
-  int64_t done = lr_ior_parse(&ior, reference, strlen(reference));
-  if (done == LR_OK) done = first_of(&ior, &index, &profile);
-  if (done == LR_OK) done = open_at(caller, &ior, index, &profile);
-  lr_ior_close(&ior);
-  return done;
+  lr_idl_reference parsed;
+  lr_idl_road home = LR_IDL_ROAD;
+  if (caller->home.count > 0) return LR_E_OPEN;
+  int64_t done = lr_idl_reference__parse(&parsed, reference);
+  if (done < 0) return done;
+  done = find_road(&home, &parsed);
+  lr_idl_reference__free(&parsed);
+  return done == LR_OK ? open_caller(caller, &home) : done;
 }
 
 static void hang_up(lr_idl_caller *caller) {
   if (caller->fd >= 0) close(caller->fd);
   caller->fd = -1;
+  caller->is_lost = caller->is_lost || caller->is_sent;
+  caller->is_sent = caller->is_heard = false;
   lr_client_lost(&caller->client);
 }
 
+/* What was forwarded goes home again. */
+static void forget(lr_idl_caller *caller) {
+  close_road(&caller->led);
+  free(caller->from);
+  caller->from = NULL;
+}
+
 void lr_idl_caller_close(lr_idl_caller *caller) {
-  if (caller->host != NULL) hang_up(caller);
+  if (caller->home.count > 0) hang_up(caller);
   lr_client_close(&caller->client);
-  free(caller->host);
-  free(caller->key);
+  close_road(&caller->home);
+  forget(caller);
   *caller = (lr_idl_caller)LR_IDL_CALLER;
 }
 
@@ -767,14 +875,22 @@ static int connected_to(const struct addrinfo *address, uint64_t patience) {
   return -1;
 }
 
-/* Connects anew. False where that fails. */
+/* How long an address may take to be reached. */
+static uint64_t patience_of(const lr_idl_caller *caller, const lr_idl_road *road) {
+  const uint64_t share = caller->patience / road->count, most = CONNECT_SECONDS * LR_SECOND;
+  return road->count == 1 || share < most ? share : most;
+}
+
+/* Connects with the address that is to be asked. False where that fails. */
 static bool call_up(lr_idl_caller *caller) {
+  const lr_idl_road *road = road_of(caller);
+  const lr_idl_address *address = &road->addresses[road->next];
   struct addrinfo hints = {.ai_socktype = SOCK_STREAM}, *found = NULL;
   char port[6];
-  snprintf(port, sizeof port, "%u", (unsigned)caller->port);
-  if (getaddrinfo(caller->host, port, &hints, &found) != 0) return false;
+  snprintf(port, sizeof port, "%u", (unsigned)address->port);
+  if (getaddrinfo(address->host, port, &hints, &found) != 0) return false;
   for (const struct addrinfo *one = found; one != NULL && caller->fd < 0; one = one->ai_next)
-    caller->fd = connected_to(one, caller->patience);
+    caller->fd = connected_to(one, patience_of(caller, road));
   freeaddrinfo(found);
   return caller->fd >= 0 && lr_client_connected(&caller->client, now()) == LR_OK;
 }
@@ -788,15 +904,32 @@ static bool send_all(int fd, const unsigned char *octets, size_t size) {
   return true;
 }
 
+static bool send_due(lr_idl_caller *caller) {
+  unsigned char room[PIECE];
+  int64_t size;
+  while ((size = lr_client_output(&caller->client, room, sizeof room)) > 0) {
+    caller->is_sent = true;
+    if (!send_all(caller->fd, room, (size_t)size)) return false;
+  }
+  return size == 0;
+}
+
+/* What TRANSIENT left pending is due again: here, if there is no other address. False where it is left for the next. */
+static bool resend(lr_idl_caller *caller) {
+  unsigned char room[1];
+  if (lr_client_resend(&caller->client, now()) != LR_OK) return false;
+  if (road_of(caller)->count == 1 || lr_client_output(&caller->client, room, sizeof room) == 0) return true;
+  caller->is_sent = caller->is_heard = false;
+  return false;
+}
+
 /* Sends what is due, and takes what comes, for a while. False where the connection is over. */
 static bool talk(lr_idl_caller *caller) {
   unsigned char room[PIECE];
-  int64_t size;
-  while ((size = lr_client_output(&caller->client, room, sizeof room)) > 0)
-    if (!send_all(caller->fd, room, (size_t)size)) return false;
+  if (!send_due(caller)) return false;
   struct pollfd waits = {caller->fd, POLLIN, 0};
   int ready = poll(&waits, 1, WAIT);
-  if (ready == 0) return lr_client_resend(&caller->client, now()) == LR_OK;
+  if (ready == 0) return resend(caller);
   if (ready < 0) return errno == EINTR;
   ssize_t count = recv(caller->fd, room, sizeof room, 0);
   return count > 0 && lr_client_feed(&caller->client, room, (size_t)count) >= 0 &&
@@ -804,25 +937,53 @@ static bool talk(lr_idl_caller *caller) {
 }
 
 /* The completion of a call: 1, or 0 where it is pending. */
-static int64_t completed(lr_client *client, int64_t call, lr_completion *ended) {
+static int64_t completed(lr_idl_caller *caller, int64_t call, lr_completion *ended) {
   int64_t done;
-  do done = lr_client_completed(client, ended, sizeof *ended);
+  do done = lr_client_completed(&caller->client, ended, sizeof *ended);
   while (done == 1 && ended->call != call);
+  if (done == 1 && ended->how != LR_ENDED_EXPIRED) caller->is_sent = false;
+  if (done == 1 && ended->how <= LR_ENDED_NEEDS_ADDRESSING) caller->is_heard = true;
   return done;
 }
 
-/* Waits until a call has ended. */
+static void wait_longer(long *delay) {
+  struct timespec pause = {*delay / 1000, *delay % 1000 * 1000000};
+  nanosleep(&pause, NULL);
+  *delay = 2 * *delay < LAST_DELAY ? 2 * *delay : LAST_DELAY;
+}
+
+/* Addresses that could not be reached, one after another, and how long the next pause is, in ms. */
+struct tries {
+  uint32_t failed;
+  long delay;
+};
+
+/* Leaves an address for the next one, but for one that had answered on this connection. After each connection, and after
+ * a round of addresses, it waits. False where a call was led to where nobody answers. */
+static bool move_on(lr_idl_caller *caller, struct tries *tries) {
+  lr_idl_road *road = road_of(caller);
+  const bool was_there = caller->fd >= 0, was_heard = caller->is_heard;
+  hang_up(caller);
+  if (was_heard) return true;
+  road->next = (road->next + 1) % road->count;
+  tries->failed = was_there ? 0 : tries->failed + 1;
+  if (caller->is_led && tries->failed == road->count) return false;
+  if (was_there || tries->failed % road->count == 0) wait_longer(&tries->delay);
+  return true;
+}
+
+/* Waits until a call has ended. AGAIN: nobody answers where it was led, and it is not pending there any more. */
 static int64_t settle(lr_idl_caller *caller, int64_t call, lr_completion *ended) {
-  long delay = FIRST_DELAY;
+  struct tries tries = {0, FIRST_DELAY};
   for (;;) {
     int64_t done = lr_client_tick(&caller->client, now());
-    if (done == LR_OK) done = completed(&caller->client, call, ended);
+    if (done == LR_OK) done = completed(caller, call, ended);
     if (done != 0) return done < 0 ? done : LR_OK;
     if (caller->fd >= 0 ? talk(caller) : call_up(caller)) continue;
-    hang_up(caller);
-    struct timespec pause = {delay / 1000, delay % 1000 * 1000000};
-    nanosleep(&pause, NULL);
-    delay = 2 * delay < LAST_DELAY ? 2 * delay : LAST_DELAY;
+    if (move_on(caller, &tries)) continue;
+    done = lr_client_cancel(&caller->client, call);
+    forget(caller);
+    return done < 0 ? done : AGAIN;
   }
 }
 
@@ -835,23 +996,85 @@ void lr_idl_raised_free(lr_idl_raised *raised) {
   *raised = (lr_idl_raised)LR_IDL_RAISED;
 }
 
-/* Calls an operation by its arguments, and answers the number of the call. */
-static int64_t call_by(const lr_idl_object *object, const lr_idl_operation *operation, const void *const *arguments) {
-  struct body out = {NULL, 0, {0, 0, LR_ORDER_BIG, 0}};
-  lr_client *client = &object->caller->client;
-  const uint64_t moment = now(), expiration = moment + object->caller->patience;
-  const size_t name_size = strlen(operation->name);
-  int64_t done = append_all(&out, &operation->arguments, arguments);
-  const size_t size = (size_t)out.place.next;
-  if (done == LR_OK && (operation->is_raw || operation->is_oneway))
-    done = lr_client_call_raw(client, moment, expiration, operation->is_oneway ? LR_WISH_NONE : LR_WISH_FULL,
-                              object->key, object->key_size, operation->name, name_size, LR_ORDER_BIG, NULL, 0,
-                              out.octets, size);
-  else if (done == LR_OK)
-    done = lr_client_call(client, moment, expiration, object->key, object->key_size, operation->name, name_size,
-                          operation->arguments.codes, operation->arguments.codes_size, LR_ORDER_BIG, out.octets, size);
-  free(out.octets);
-  return done;
+/* Calls an operation by the octets of its arguments, and answers the number of the call. */
+static int64_t call_by(const lr_idl_object *object, const lr_idl_operation *operation, const struct body *out,
+                       uint64_t expiration) {
+  lr_idl_caller *caller = object->caller;
+  const void *key = caller->is_led ? caller->led.key : object->key;
+  const size_t key_size = caller->is_led ? caller->led.key_size : object->key_size;
+  const size_t name_size = strlen(operation->name), size = (size_t)out->place.next;
+  if (operation->is_raw || operation->is_oneway)
+    return lr_client_call_raw(&caller->client, now(), expiration, operation->is_oneway ? LR_WISH_NONE : LR_WISH_FULL,
+                              key, key_size, operation->name, name_size, LR_ORDER_BIG, NULL, 0, out->octets, size);
+  return lr_client_call(&caller->client, now(), expiration, key, key_size, operation->name, name_size,
+                        operation->arguments.codes, operation->arguments.codes_size, LR_ORDER_BIG, out->octets, size);
+}
+
+/* The body of a reply; NULL where there is no memory. */
+static unsigned char *body_of(lr_idl_caller *caller, const lr_completion *ended) {
+  unsigned char *octets = malloc((size_t)ended->body_size + 1);
+  if (octets != NULL && ended->body_size > 0) lr_client_body(&caller->client, octets, (size_t)ended->body_size);
+  return octets;
+}
+
+/* Follows a forward: AGAIN. LR_E_OUTCOME: it leads to no address. */
+static int64_t follow(const lr_idl_object *object, const lr_completion *ended) {
+  lr_idl_caller *caller = object->caller;
+  lr_idl_reference reference;
+  lr_idl_road road = LR_IDL_ROAD;
+  lr_place place = {ended->body_at, 0, ended->body_order, 0};
+  unsigned char *octets = body_of(caller, ended);
+  if (octets == NULL) return LR_E_MEMORY;
+  int64_t done = lr_idl_get(&lr_idl_reference__type, octets, (size_t)ended->body_size, &place, &reference);
+  free(octets);
+  if (done < 0) return done;
+  done = find_road(&road, &reference);
+  lr_idl_reference__free(&reference);
+  char *from = done == LR_OK ? copy_of(object->key, object->key_size) : NULL;
+  if (from == NULL) {
+    close_road(&road);
+    return done == LR_E_REFERENCE ? LR_E_OUTCOME : LR_E_MEMORY;
+  }
+  forget(caller);
+  caller->led = road;
+  caller->from = from;
+  caller->from_size = object->key_size;
+  return AGAIN;
+}
+
+/* Goes home, or where the key of an object was led. The next call gets the number after this one. */
+static int64_t turn_to(const lr_idl_object *object, int64_t last) {
+  lr_idl_caller *caller = object->caller;
+  const bool is_led = caller->led.count > 0 && caller->from_size == object->key_size &&
+                      (object->key_size == 0 || memcmp(caller->from, object->key, object->key_size) == 0);
+  if (is_led == caller->is_led && last == caller->last) return LR_OK;
+  hang_up(caller);
+  caller->is_led = is_led;
+  return open_client(caller, last);
+}
+
+/* Makes a call under one number, wherever it leads, until it has ended. */
+static int64_t make_call(const lr_idl_object *object, const lr_idl_operation *operation, const struct body *out,
+                         lr_completion *ended) {
+  lr_idl_caller *caller = object->caller;
+  const uint64_t expiration = now() + caller->patience;
+  const int64_t last = caller->last;
+  long delay = FIRST_DELAY;
+  caller->is_lost = caller->is_sent = false;
+  for (unsigned hops = 0;; hops++) {
+    if (hops > 2) wait_longer(&delay);
+    int64_t done = turn_to(object, last);
+    if (done == LR_OK) done = call_by(object, operation, out, expiration);
+    if (done == LR_E_EXPIRED && hops > 0) {
+      *ended = (lr_completion){.how = LR_ENDED_EXPIRED};
+      return LR_OK;
+    }
+    if (done < 0) return done;
+    caller->last = done;
+    done = settle(caller, done, ended);
+    if (done == LR_OK && ended->how == LR_ENDED_FORWARDED) done = follow(object, ended);
+    if (done != AGAIN) return done;
+  }
 }
 
 /* Frees the argument that a result takes the place of, if it is one. */
@@ -910,6 +1133,14 @@ static int64_t take_system(const struct reader *in, lr_idl_raised *raised) {
   return done < 0 ? done : LR_ENDED_SYSTEM;
 }
 
+/* What is raised where no address can be reached. */
+static int64_t raise_unreached(const lr_idl_caller *caller, lr_idl_raised *raised) {
+  const char *id = caller->is_lost ? "IDL:omg.org/CORBA/COMM_FAILURE:1.0" : "IDL:omg.org/CORBA/TRANSIENT:1.0";
+  raised->id = copy_of(id, strlen(id));
+  raised->completed = caller->is_lost ? LR_COMPLETED_MAYBE : LR_COMPLETED_NO;
+  return raised->id == NULL ? LR_E_MEMORY : LR_ENDED_SYSTEM;
+}
+
 /* Takes what came of a call, by its body. */
 static int64_t take(const lr_idl_operation *operation, uint32_t how, const struct reader *in,
                     const void *const *arguments, void *const *results, lr_idl_raised *raised) {
@@ -923,22 +1154,32 @@ static int64_t take(const lr_idl_operation *operation, uint32_t how, const struc
   }
 }
 
+/* Takes what came of a call that has ended. */
+static int64_t take_ended(const lr_idl_object *object, const lr_idl_operation *operation, const lr_completion *ended,
+                          const void *const *arguments, void *const *results, lr_idl_raised *raised) {
+  if (ended->how == LR_ENDED_EXPIRED && object->caller->fd < 0) return raise_unreached(object->caller, raised);
+  unsigned char *octets = body_of(object->caller, ended);
+  if (octets == NULL) return LR_E_MEMORY;
+  lr_place place = {ended->body_at, 0, ended->body_order, 0};
+  struct reader in = {octets, (size_t)ended->body_size, &place};
+  int64_t done = take(operation, ended->how, &in, arguments, results, raised);
+  free(octets);
+  /* (the next call of the key is asked for at home) */
+  if (done == LR_ENDED_SYSTEM && strcmp(raised->id, "IDL:omg.org/CORBA/OBJECT_NOT_EXIST:1.0") == 0)
+    forget(object->caller);
+  return done;
+}
+
 int64_t lr_idl_invoke(const lr_idl_object *object, const lr_idl_operation *operation, const void *const *arguments,
                       void *const *results, lr_idl_raised *raised) {
   lr_idl_raised found = LR_IDL_RAISED;
   lr_completion ended = {0};
+  struct body out = {NULL, 0, {0, 0, LR_ORDER_BIG, 0}};
   if (raised != NULL) lr_idl_raised_free(raised);
-  int64_t done = call_by(object, operation, arguments);
-  if (done >= 0) done = settle(object->caller, done, &ended);
-  if (done < 0) return done;
-  const size_t size = (size_t)ended.body_size;
-  void *octets = malloc(size + 1);
-  if (octets == NULL) return LR_E_MEMORY;
-  if (size > 0) lr_client_body(&object->caller->client, octets, size);
-  lr_place place = {ended.body_at, 0, ended.body_order, 0};
-  struct reader in = {octets, size, &place};
-  done = take(operation, ended.how, &in, arguments, results, &found);
-  free(octets);
+  int64_t done = append_all(&out, &operation->arguments, arguments);
+  if (done == LR_OK) done = make_call(object, operation, &out, &ended);
+  free(out.octets);
+  if (done == LR_OK) done = take_ended(object, operation, &ended, arguments, results, &found);
   if (raised != NULL)
     *raised = found;
   else

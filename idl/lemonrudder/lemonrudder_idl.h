@@ -201,25 +201,52 @@ int64_t lr_idl_lacking(const lr_idl_call *call);
 
 /* ---- stubs ---- */
 
-/* Makes calls over TCP, one at a time, and waits for each: it is sent again on each new connection, and after
- * TRANSIENT, until it is answered or expires. Its client id is random. */
+/* A host and a port. */
 typedef struct {
-  lr_client client;
-  int fd; /* of its socket, -1 where it is not connected */
-  uint16_t port;
   char *host;
+  uint16_t port;
+} lr_idl_address;
+
+/* Where objects are asked for: addresses in order, of servers that share their outcomes, and the key of an object. */
+typedef struct {
+  lr_idl_address *addresses;
+  uint32_t count, next; /* how many there are, and which is asked */
+  uint32_t version;     /* of IIOP 1.. that all have */
   void *key;
   size_t key_size;
+} lr_idl_road;
+
+#define LR_IDL_ROAD {NULL, 0, 0, 2, NULL, 0}
+
+/* Makes calls over TCP, one at a time, and waits for each: it is sent again under its number on each new connection,
+ * and after TRANSIENT, until it is answered or expires. An address that can't be reached, is lost without an answer, or
+ * answers TRANSIENT is left for the next one. A call that is forwarded is asked for where it leads, and so are later
+ * ones of its key, until nobody answers there. Its client id is random. But for `patience` it is not yours to change. */
+typedef struct {
+  lr_client client;
+  int fd;            /* of its socket, -1 where it is not connected */
   uint64_t patience; /* how long calls that come are sent again, and a socket is waited for, in 100 ns: 60 seconds */
+  lr_idl_road home;
+  lr_idl_road led; /* where the last forward leads; it has no addresses where that counts no more */
+  void *from;      /* the key that was forwarded */
+  size_t from_size;
+  int64_t last; /* the number of the last call */
+  char id[32];
+  bool is_led;   /* the client asks where the forward leads */
+  bool is_heard; /* an answer came on this connection */
+  bool is_sent;  /* a call was sent on it that is not answered */
+  bool is_lost;  /* .. and on one before */
 } lr_idl_caller;
 
-#define LR_IDL_CALLER {LR_INIT, -1, 0, NULL, NULL, 0, 0}
+#define LR_IDL_CALLER \
+  {LR_INIT, -1, 0, LR_IDL_ROAD, LR_IDL_ROAD, NULL, 0, 0, {0}, false, false, false, false}
 
 /* Opens a caller of a server, which is LR_IDL_CALLER before. LR_E_OPEN, LR_E_MEMORY. */
 int64_t lr_idl_caller_open(lr_idl_caller *caller, const char *host, uint16_t port);
 
-/* .. of the object that a stringified reference names, at its first address of IIOP. LR_E_OPEN, LR_E_REFERENCE (it is
- * none, or has no such address), LR_E_MEMORY. */
+/* .. of the object that a stringified reference names: of all its addresses of IIOP, also in components
+ * TAG_ALTERNATE_IIOP_ADDRESS, under the key of the first one. LR_E_OPEN, LR_E_REFERENCE (it is none, or has no such
+ * address), LR_E_MEMORY. */
 int64_t lr_idl_caller_of(lr_idl_caller *caller, const char *reference);
 
 /* Closes a caller, and makes it LR_IDL_CALLER. */
@@ -234,7 +261,7 @@ typedef struct {
 
 /* The object of the reference that a caller was opened of. */
 static inline lr_idl_object lr_idl_object_of(lr_idl_caller *caller) {
-  lr_idl_object object = {caller, caller->key, caller->key_size};
+  lr_idl_object object = {caller, caller->home.key, caller->home.key_size};
   return object;
 }
 
@@ -254,9 +281,11 @@ void lr_idl_raised_free(lr_idl_raised *raised);
 /* What stands below the stubs. Calls an operation, and answers LR_ENDED_RETURNED, which is LR_OK: the results are
  * there; LR_ENDED_RAISED: an exception that it declares; LR_ENDED_SYSTEM: a system exception; or an error: LR_E_RANGE
  * (an argument passes a bound, or is none of its enum: nothing is sent), LR_E_EXPIRED, LR_E_VALUE and LR_E_SHORT
- * (results that are none of their types, or too many), LR_E_OUTCOME (an exception that it does not declare, or a reply
- * that leads elsewhere), LR_E_MEMORY (it may have been performed). `raised` may be NULL; what it held before is freed.
- * A result that goes where an argument stands takes its place; one whose place is NULL is freed. */
+ * (results that are none of their types, or too many), LR_E_OUTCOME (an exception that it does not declare, or a
+ * forward to no address), LR_E_MEMORY (it may have been performed). Where no address can be reached as it expires, it
+ * ends by TRANSIENT, COMPLETED_NO, or by COMM_FAILURE, COMPLETED_MAYBE, if a connection was lost on which it was sent.
+ * `raised` may be NULL; what it held before is freed. A result that goes where an argument stands takes its place; one
+ * whose place is NULL is freed. */
 int64_t lr_idl_invoke(const lr_idl_object *object, const lr_idl_operation *operation, const void *const *arguments,
                       void *const *results, lr_idl_raised *raised);
 

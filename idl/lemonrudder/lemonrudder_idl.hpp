@@ -342,7 +342,7 @@ Loop::Servant performer(Call call) {
 
 /* ---- stubs ---- */
 
-/* A system exception that a server answered. */
+/* A system exception: of a server, or TRANSIENT or COMM_FAILURE of a Caller. */
 struct SystemRaised {
   std::string id;
   std::uint32_t minor = 0;
@@ -351,7 +351,7 @@ struct SystemRaised {
 
 /* What came of a call: its result, an exception that the operation declares, a system exception, or an error: one of
  * its own values, and nothing was sent (LR_E_RANGE, LR_E_TEXT); LR_E_EXPIRED; what the reply has is none of the types
- * (LR_E_VALUE, LR_E_SHORT), or another exception, or leads elsewhere (LR_E_OUTCOME). */
+ * (LR_E_VALUE, LR_E_SHORT), or another exception, or leads to no address (LR_E_OUTCOME). */
 template <class Value, class... Raised>
 class [[nodiscard]] Outcome {
  public:
@@ -403,112 +403,322 @@ struct Reply {
   Reader reader() const noexcept { return Reader(Octets(body), completion.byte_order(), completion.body_at); }
 };
 
-/* Makes calls over TCP, one at a time, and waits for each: it is sent again on each new connection, and after
- * TRANSIENT, until it is answered or expires. Its client id is random. */
+/* Where objects are asked for: addresses in order, of servers that share their outcomes, and the key of an object. */
+struct Road {
+  struct Address {
+    std::string host;
+    std::uint16_t port;
+  };
+  std::vector<Address> addresses;
+  std::size_t next = 0;       // the address that is asked
+  std::uint32_t version = 2;  // of IIOP 1.. that all have
+  std::string key;
+
+  /* That to all addresses of a reference, also in components TAG_ALTERNATE_IIOP_ADDRESS (CORBA 3.3 Part 2, 9.7.3), under
+   * the key of the first one. What is no profile of IIOP says nothing. */
+  static Road of(const ObjectReference& reference) {
+    Road made;
+    for (const ObjectReference::Profile& profile : reference.profiles)
+      if (profile.tag == 0) made.add_profile(profile.data);
+    return made;
+  }
+
+ private:
+  static Reader encapsulated(Octets octets) noexcept {
+    const bool is_one = !octets.empty() && octets.data()[0] <= 1;
+    Reader in(is_one ? octets : Octets(), is_one ? Order{octets.data()[0]} : Order::big);
+    static_cast<void>(in.get_octet());
+    return in;
+  }
+
+  static Done read(Reader& in, Address& address) {
+    const Done done = String<>::read(in, address.host);
+    return done ? detail::into(in.get_ushort(), address.port) : done;
+  }
+
+  void add(const Address& address, std::uint8_t minor, std::string_view its_key) {
+    if (address.port == 0) return;
+    if (addresses.empty()) key = its_key;
+    if (key != its_key) return;
+    version = std::min<std::uint32_t>(version, minor);
+    addresses.push_back(address);
+  }
+
+  void add_profile(Octets data) {
+    Reader in = encapsulated(data);
+    const auto major = in.get_octet(), minor = in.get_octet();
+    Address address{};
+    if (!major || *major != 1 || !minor || !read(in, address)) return;
+    const auto its_key = in.get_octets();
+    if (!its_key) return;
+    add(address, *minor, its_key->text());
+    const auto count = *minor == 0 ? Result<std::uint32_t>(0) : in.get_ulong();
+    for (std::uint32_t left = count ? *count : 0; left > 0; left--) {
+      const auto tag = in.get_ulong();
+      const auto octets = in.get_octets();
+      if (!tag || !octets) return;
+      Reader component = encapsulated(*octets);
+      if (*tag == 3 && read(component, address)) add(address, *minor, its_key->text());
+    }
+  }
+};
+
+/* Makes calls over TCP, one at a time, and waits for each: it is sent again under its number on each new connection,
+ * and after TRANSIENT, until it is answered or expires. An address that can't be reached, is lost without an answer, or
+ * answers TRANSIENT is left for the next one. A call that is forwarded is asked for where it leads, and so are later
+ * ones of its key, until nobody answers there. Where no address can be reached as it expires, it ends by TRANSIENT,
+ * COMPLETED_NO, or by COMM_FAILURE, COMPLETED_MAYBE, if a connection was lost on which it was sent. Its client id is
+ * random. */
 class Caller {
  public:
   static Result<Caller> open(std::string host, std::uint16_t port) {
+    Road home;
+    home.addresses.push_back({std::move(host), port});
+    return open(std::move(home));
+  }
+  static Result<Caller> open(Road home) {
     std::random_device random;
-    std::string id;
-    for (int count = 0; count < 4; count++) id += std::to_string(random()) + ".";
-    ClientSettings settings;
-    settings.keep_transient = true;
-    auto client = Client::open(id, settings);
-    if (!client) return client.error();
-    return Caller(*std::move(client), std::move(host), port);
+    Caller made;
+    for (int count = 0; count < 4; count++) made.id_ += std::to_string(random()) + ".";
+    made.home_ = std::move(home);
+    if (const Done done = made.open_client(0); !done) return done.error();
+    return made;
   }
-  /* .. of the object that a stringified reference names: at its first address of IIOP, under `key`. */
+  /* .. of the object that a stringified reference names: at all its addresses of IIOP, under `key`. */
   static Result<Caller> of(std::string_view reference) {
-    auto ior = Ior::parse(reference);
-    if (!ior) return ior.error();
-    const auto count = ior->profiles();
-    for (std::uint32_t index = 0; count && index < *count; index++) {
-      const auto profile = ior->profile(index);
-      if (!profile || !profile->is_iiop) continue;
-      const auto host = ior->part(index, IorPart::host);
-      const auto key = ior->part(index, IorPart::key);
-      if (!host || !key) return host ? key.error() : host.error();
-      auto made = open(std::string(host->begin(), host->end()), profile->port);
-      if (made) made->key_.assign(key->begin(), key->end());
-      return made;
-    }
-    return Error(LR_E_REFERENCE);
+    const auto parsed = ObjectReference::parse(reference);
+    if (!parsed) return parsed.error();
+    Road home = Road::of(*parsed);
+    if (home.addresses.empty()) return Error(LR_E_REFERENCE);
+    return open(std::move(home));
   }
-  Octets key() const noexcept { return key_; }
+  Octets key() const noexcept { return home_.key; }
   /* How long the calls that come are sent again. */
   void patience(std::chrono::milliseconds patience) noexcept { patience_ = patience; }
   std::uint64_t expiration() const noexcept {
     return now() + static_cast<std::uint64_t>(patience_.count()) * (LR_SECOND / 1000);
   }
-  Result<Reply> call(const Call& call) { return settle(client_.call(now(), call)); }
-  Result<Reply> call_raw(const RawCall& call) { return settle(client_.call_raw(now(), call)); }
+  Result<Reply> call(const Call& call) {
+    return make(call, [this](const Call& one) { return client_.call(now(), one); });
+  }
+  Result<Reply> call_raw(const RawCall& call) {
+    return make(call, [this](const RawCall& one) { return client_.call_raw(now(), one); });
+  }
 
  private:
-  Caller(Client client, std::string host, std::uint16_t port) noexcept
-      : client_(std::move(client)), host_(std::move(host)), port_(port) {}
+  using Milliseconds = std::chrono::milliseconds;
+  static constexpr std::string_view not_exist = "IDL:omg.org/CORBA/OBJECT_NOT_EXIST:1.0";
 
-  Result<Reply> settle(const Result<std::int64_t>& call) {
-    if (!call) return call.error();
-    for (std::chrono::milliseconds delay(20);;) {
+  Caller() = default;
+
+  Road& road() noexcept { return is_led_ ? led_ : home_; }
+
+  /* Opens the client anew, under the same id. The next call gets the number after this one. */
+  Done open_client(std::int64_t last) {
+    ClientSettings settings;
+    settings.keep_transient = true;
+    settings.version = road().version;
+    auto client = Client::open(id_, settings);
+    if (!client) return client.error();
+    const Done done = client->skip_to(last);
+    if (!done) return done;
+    client_ = *std::move(client);
+    last_ = last;
+    return {};
+  }
+
+  /* Goes home, or where a key was led. The next call gets the number after this one. */
+  Done turn_to(std::string_view key, std::int64_t last) {
+    const bool is_led = !led_.addresses.empty() && from_ == key;
+    if (is_led == is_led_ && last == last_) return {};
+    drop();
+    is_led_ = is_led;
+    return open_client(last);
+  }
+
+  /* Makes a call under one number, wherever it leads, until it has ended. */
+  template <class Asked, class Begin>
+  Result<Reply> make(Asked call, Begin begin) {
+    const std::string key(call.key.text());
+    const std::int64_t last = last_;
+    Milliseconds delay = first_delay;
+    is_lost_ = is_sent_ = false;
+    for (unsigned hops = 0;; hops++) {
+      if (hops > 2) wait_longer(delay);
+      if (const Done done = turn_to(key, last); !done) return done.error();
+      call.key = is_led_ ? led_.key : key;
+      const Result<std::int64_t> number = begin(call);
+      if (!number && (number.error() != LR_E_EXPIRED || hops == 0)) return number.error();
+      if (!number) return unreached();
+      last_ = *number;
+      auto ended = settle(*number);
+      if (!ended) return ended.error();
+      if (!*ended) continue;
+      const Result<bool> is_led = follow(key, **ended);
+      if (!is_led.ok()) return is_led.error();
+      if (!*is_led) return **std::move(ended);
+    }
+  }
+
+  /* Whether a reply leads elsewhere, where its key is asked for from now on. */
+  Result<bool> follow(const std::string& key, const Reply& reply) {
+    Reader in = reply.reader();
+    if (reply.completion.ended() == Ended::system && in.get_string().value_or(std::string_view()) == not_exist)
+      led_ = Road();  // (the next call of the key is asked for at home)
+    if (reply.completion.ended() != Ended::forwarded) return false;
+    ObjectReference reference;
+    if (const Done done = ObjectReference::_read(in, reference); !done) return done.error();
+    Road there = Road::of(reference);
+    if (there.addresses.empty()) return Error(LR_E_OUTCOME);
+    led_ = std::move(there);
+    from_ = key;
+    return true;
+  }
+
+  /* Waits until a call has ended. Without a reply: nobody answers where it was led, and it is not pending there. */
+  Result<std::optional<Reply>> settle(std::int64_t call) {
+    std::size_t failed = 0;
+    for (Milliseconds delay = first_delay;;) {
       if (const Done done = client_.tick(now()); !done) return done.error();
       auto ended = client_.completed();
       if (!ended) return ended.error();
-      if (*ended) {
-        auto body = client_.body();
-        // (a call that expired, or wished for no reply, has none)
-        if (!body && body.error() != LR_E_NONE) return body.error();
-        return Reply{**ended, std::move(body).value_or(std::vector<std::uint8_t>())};
-      }
+      if (*ended && (*ended)->call == call) return ended_by(**ended);
       if (socket_.is_open() ? talk() : connect()) continue;
-      drop();
-      std::this_thread::sleep_for(delay);
-      delay = std::min(2 * delay, std::chrono::milliseconds(1000));
+      if (move_on(failed, delay)) continue;
+      const auto cancelled = client_.cancel(call);
+      if (!cancelled.ok()) return cancelled.error();
+      led_ = Road();
+      return std::optional<Reply>();
     }
+  }
+
+  Result<std::optional<Reply>> ended_by(const Completion& ended) {
+    if (ended.ended() == Ended::expired && !socket_.is_open()) return std::optional<Reply>(unreached());
+    if (ended.ended() != Ended::expired) is_sent_ = false;
+    if (ended.ended() <= Ended::needs_addressing) is_heard_ = true;
+    auto body = client_.body();
+    // (a call that expired, or wished for no reply, has none)
+    if (!body && body.error() != LR_E_NONE) return body.error();
+    return std::optional<Reply>(Reply{ended, std::move(body).value_or(std::vector<std::uint8_t>())});
+  }
+
+  /* The system exception by which a call ends where no address can be reached. */
+  Reply unreached() const {
+    GrowingWriter out;
+    out.put_string(is_lost_ ? "IDL:omg.org/CORBA/COMM_FAILURE:1.0" : "IDL:omg.org/CORBA/TRANSIENT:1.0").put_ulong(0);
+    out.put_enum(is_lost_ ? Completed::maybe : Completed::no);
+    Reply made{};
+    made.completion.how = LR_ENDED_SYSTEM;
+    made.completion.body_order = static_cast<std::uint32_t>(out.order());
+    made.body.assign(out.octets().begin(), out.octets().end());
+    return made;
+  }
+
+  static void wait_longer(Milliseconds& delay) {
+    std::this_thread::sleep_for(delay);
+    delay = std::min(2 * delay, Milliseconds(1000));
+  }
+
+  /* Leaves an address for the next one, but for one that had answered on this connection. After each connection, and
+   * after a round of addresses, it waits. False where a call was led to where nobody answers. */
+  bool move_on(std::size_t& failed, Milliseconds& delay) {
+    const bool was_there = socket_.is_open(), was_heard = is_heard_;
+    const std::size_t count = road().addresses.size();
+    drop();
+    if (was_heard) return true;
+    road().next = (road().next + 1) % count;
+    failed = was_there ? 0 : failed + 1;
+    if (is_led_ && failed == count) return false;
+    if (was_there || failed % count == 0) wait_longer(delay);
+    return true;
   }
 
   void drop() {
     socket_.close();
+    is_lost_ = is_lost_ || is_sent_;
+    is_sent_ = is_heard_ = false;
     static_cast<void>(client_.lost());
   }
 
+  /* How long an address may take to be reached, and to take what is sent. */
+  timeval limit() {
+    const auto count = static_cast<Milliseconds::rep>(road().addresses.size());
+    const Milliseconds share = count == 1 ? patience_ : std::min(patience_ / count, Milliseconds(10000));
+    return {static_cast<time_t>(share.count() / 1000), static_cast<suseconds_t>(share.count() % 1000 * 1000 + 1)};
+  }
+
   bool connect() {
+    const Road::Address& address = road().addresses[road().next];
+    const timeval most = limit();
     addrinfo hints{};
     hints.ai_socktype = SOCK_STREAM;
     addrinfo* found = nullptr;
-    if (getaddrinfo(host_.c_str(), std::to_string(port_).c_str(), &hints, &found) != 0) return false;
+    if (getaddrinfo(address.host.c_str(), std::to_string(address.port).c_str(), &hints, &found) != 0) return false;
     for (const addrinfo* one = found; one != nullptr && !socket_.is_open(); one = one->ai_next) {
       lemonrudder::detail::Descriptor made(socket(one->ai_family, one->ai_socktype, one->ai_protocol));
+      static_cast<void>(made.set(IPPROTO_TCP, TCP_NODELAY));
+      setsockopt(made.fd(), SOL_SOCKET, SO_SNDTIMEO, &most, sizeof most);
       if (::connect(made.fd(), one->ai_addr, one->ai_addrlen) == 0) socket_ = std::move(made);
     }
     freeaddrinfo(found);
     return socket_.is_open() && client_.connected(now()).ok();
   }
 
-  /* Sends what is due, and takes what comes, for a while. False where the connection is over. */
-  bool talk() {
+  bool send_due() {
     std::uint8_t room[4096];
     for (;;) {
       const Count size = client_.output(room);
       if (!size) return false;
-      if (*size == 0) break;
-      for (std::size_t sent = 0; sent < *size;) {
-        const ssize_t count = send(socket_.fd(), room + sent, *size - sent, MSG_NOSIGNAL);
-        if (count <= 0) return false;
-        sent += static_cast<std::size_t>(count);
-      }
+      if (*size == 0) return true;
+      is_sent_ = true;
+      if (!send_all({room, *size})) return false;
     }
+  }
+
+  bool send_all(Octets octets) {
+    while (!octets.empty()) {
+      const ssize_t count = send(socket_.fd(), octets.data(), octets.size(), MSG_NOSIGNAL);
+      if (count <= 0) return false;
+      octets = octets.from(static_cast<std::size_t>(count));
+    }
+    return true;
+  }
+
+  /* What TRANSIENT left pending is due again: here, if there is no other address. False: it is left for the next. */
+  bool resend() {
+    std::uint8_t room[1];
+    if (!client_.resend(now())) return false;
+    if (road().addresses.size() == 1) return true;
+    const Count due = client_.output(room);
+    if (due && *due == 0) return true;
+    is_sent_ = is_heard_ = false;
+    return false;
+  }
+
+  /* Sends what is due, and takes what comes, for a while. False where the connection is over. */
+  bool talk() {
+    std::uint8_t room[4096];
+    if (!send_due()) return false;
     pollfd waits{socket_.fd(), POLLIN, 0};
     const int ready = poll(&waits, 1, 100);
-    if (ready == 0) return client_.resend(now()).ok();
+    if (ready == 0) return resend();
     if (ready < 0) return errno == EINTR;
     const ssize_t count = recv(socket_.fd(), room, sizeof room, 0);
     return count > 0 && client_.feed({room, static_cast<std::size_t>(count)}).ok() && client_.is_connected();
   }
 
+  static constexpr Milliseconds first_delay{20};
+
   Client client_;
-  std::string host_;
-  std::uint16_t port_;
-  std::vector<std::uint8_t> key_;
+  std::string id_;
+  std::int64_t last_ = 0;  // the number of the last call
+  Road home_;
+  Road led_;  // where the last forward leads, which is of this key, while somebody answers there
+  std::string from_;
+  bool is_led_ = false;    // the client asks there
+  bool is_heard_ = false;  // an answer came on this connection
+  bool is_sent_ = false;   // a call was sent on it that is not answered
+  bool is_lost_ = false;   // .. and on one before
   std::chrono::milliseconds patience_{60000};
   lemonrudder::detail::Descriptor socket_;
 };

@@ -6,18 +6,24 @@ is served and called; and all of it is compiled by two compilers, with sanitizer
 from __future__ import annotations
 
 import asyncio
+import functools
 import os
 import unittest
 from collections.abc import Iterable
+from typing import Any
 
 from tests import base
 from tests.embed import idl_test
+from tests.embed import idl_roads
 from tests.embed.idl_test import (
     DEPOSITS, EMBED, EXAMPLES, FOLDER, SHAPES, backend, compiled, dialogue, exchanged, made, omniidl, omniorb_program,
     run, serving)
 from tests.programs import ROOT, needs, tool
 
 TYPES = idl_test.TYPES
+BANK = (os.path.join(EXAMPLES, "idl", "bank.c"), os.path.join(EXAMPLES, "bank.idl"))
+# the allocations that are refused, one after another; a call makes fewer
+MOST_REFUSED = 140
 # how programs in C are compiled and run: the compiler, its flags, and the words before the program
 WAYS = {
     "gcc": ("gcc", ["-O2"], []), "clang": ("clang", ["-O2"], []),
@@ -322,9 +328,33 @@ class Bank(unittest.TestCase):
     @base.each(lambda: [(way, way) for way in WAYS])
     def test_bank(self, way: str) -> None:
         """A client of omniORB calls it, and it calls a server of omniORB."""
-        bank = words_of(way, "bank_c", os.path.join(EXAMPLES, "idl", "bank.c"), os.path.join(EXAMPLES, "bank.idl"))
+        bank = words_of(way, "bank_c", *BANK)
         self.assertEqual(dialogue([*bank, "serve"], [self.omniorb]), DEPOSITS)
         self.assertEqual(dialogue([self.omniorb, "serve", "-ORBendPoint", "giop:tcp:127.0.0.1:"], bank), DEPOSITS)
+
+    @base.each(idl_roads.ROADS.items)
+    def test_roads(self, road: Any) -> None:
+        """Its client goes over all addresses of a reference and over forwards, and acts once."""
+        for bank in self.banks():
+            with self.subTest(bank[0]):
+                idl_roads.crossed(self, bank, road)
+
+    def test_want_of_memory(self) -> None:
+        """With one allocation of its client refused, each once, it says so or goes on over forwards; it leaks nothing."""
+        flags = [os.path.join(EMBED, "refusing.c"), "-Wl,--wrap=malloc", "-Wl,--wrap=realloc"]
+        bank = words_of("gcc, sanitized", "bank_refusing", *BANK, flags=flags)
+        for road in (idl_roads.forward, idl_roads.forward_to_nobody):
+            found = [idl_roads.ended(bank, road, REFUSED=str(number)) for number in range(1, MOST_REFUSED)]
+            self.assertEqual({(status, said) for _, status, said in found},
+                             {(0, "5"), (1, "an allocation failed, and nothing has changed")})
+            self.assertEqual(found[-1][1:], (0, "5"))
+            self.assertLessEqual(max(len(made.performed) for made, _, _ in found), 1)
+
+    @staticmethod
+    @functools.lru_cache(maxsize=None)
+    def banks() -> list[list[str]]:
+        """The bank with sanitizers, and under valgrind."""
+        return [words_of(way, "bank_c", *BANK) for way in ("gcc, sanitized", "gcc, watched")]
 
 
 if __name__ == "__main__":

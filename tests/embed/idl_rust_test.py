@@ -13,9 +13,11 @@ import re
 import shutil
 import tempfile
 import unittest
+from typing import Any
 
 from tests import base
 from tests.embed import idl_test, rust_test
+from tests.embed import idl_roads
 from tests.embed.idl_test import DEPOSITS, EMBED, EXAMPLES, dialogue, exchanged, omniidl, omniorb_program, run, serving
 from tests.programs import NEEDS, ROOT, library, needs
 
@@ -449,6 +451,11 @@ class Bank(unittest.TestCase):
     def test_called(self) -> None:
         """It calls a server of omniORB."""
         self.assertEqual(dialogue([self.omniorb, "serve", "-ORBendPoint", "giop:tcp:127.0.0.1:"], self.bank), DEPOSITS)
+
+    @base.each(idl_roads.ROADS.items)
+    def test_roads(self, road: Any) -> None:
+        """Its client goes over all addresses of a reference and over forwards, and acts once."""
+        idl_roads.crossed(self, self.bank, road)
 
 
 if __name__ == "__main__":

@@ -30,6 +30,7 @@ sys.path.insert(0, os.path.join(ROOT, "bindings", "python"))
 
 import lemonrudder as lr  # noqa: E402
 from lemonrudder import idl  # noqa: E402
+from tests.embed import idl_roads  # noqa: E402
 
 # how many seconds a compiler or a program may take on a busy machine
 SECONDS = 600
@@ -697,6 +698,7 @@ class Python(unittest.TestCase):
 # ---- the bank ----
 
 # how each language's bank is run: as a server, and for a deposit
+@functools.lru_cache(maxsize=None)
 def bank_python() -> list[str]:
     """The bank in Python, made of examples/bank.idl."""
     made_in = os.path.join(FOLDER.name, "bank_python")
@@ -708,6 +710,7 @@ def bank_python() -> list[str]:
     return ["env", f"PYTHONPATH={path}", sys.executable, os.path.join(EXAMPLES, "idl", "bank.py")]
 
 
+@functools.lru_cache(maxsize=None)
 def bank_cpp(compiler: str = "g++") -> list[str]:
     """The bank in C++."""
     backend(os.path.join(EXAMPLES, "bank.idl"), "cpp")
@@ -756,6 +759,13 @@ class Bank(unittest.TestCase):
     def test_called(self, bank: Any) -> None:
         """It calls a server of omniORB."""
         self.assertEqual(dialogue([self.omniorb, "serve", "-ORBendPoint", "giop:tcp:127.0.0.1:"], bank()), DEPOSITS)
+
+    @base.each(idl_roads.ROADS.items)
+    def test_roads(self, road: Any) -> None:
+        """Its client goes over all addresses of a reference and over forwards, and acts once."""
+        for name, bank in BANKS.items():
+            with self.subTest(name):
+                idl_roads.crossed(self, bank(), road)
 
 
 # ---- refusals ----

@@ -103,6 +103,12 @@ static void arguments(void) {
   close(listener);
 }
 
+static bool is_system(const lr_idl_raised *raised, const char *name, uint32_t completed) {
+  char id[80];
+  snprintf(id, sizeof id, "IDL:omg.org/CORBA/%s:1.0", name);
+  return raised->id != NULL && strcmp(raised->id, id) == 0 && raised->completed == completed && raised->members == NULL;
+}
+
 /* A server that can't be reached: as many wait there already as may. */
 static void unreachable(void) {
   uint16_t port;
@@ -117,11 +123,44 @@ static void unreachable(void) {
   WANT(lr_idl_caller_open(&caller, "127.0.0.1", port), LR_OK);
   caller.patience = LR_SECOND / 5;
   const time_t begun = time(NULL);
-  WANT(Shapes_Desk__get_size((Shapes_Desk){&caller, LR_TEXT("desk")}, NULL, NULL), LR_E_EXPIRED);
+  lr_idl_raised raised = LR_IDL_RAISED;
+  WANT(Shapes_Desk__get_size((Shapes_Desk){&caller, LR_TEXT("desk")}, NULL, &raised), LR_ENDED_SYSTEM);
+  CHECK(is_system(&raised, "TRANSIENT", LR_COMPLETED_NO));
   CHECK(time(NULL) - begun < 20);
+  lr_idl_raised_free(&raised);
   lr_idl_caller_close(&caller);
   for (int index = 0; index < 4; index++) close(waiting[index]);
   close(listener);
+}
+
+/* Takes what comes, and is gone. */
+static void *take_and_leave(void *listener) {
+  char room[1024];
+  int fd = accept(*(int *)listener, NULL, NULL);
+  CHECK(recv(fd, room, sizeof room, 0) > 0);
+  close(*(int *)listener);
+  close(fd);
+  return NULL;
+}
+
+/* A server that is gone amid a call, which it may have performed. */
+static void left_alone(void) {
+  uint16_t port;
+  int listener = silent(&port);
+  pthread_t thread;
+  lr_idl_caller caller = LR_IDL_CALLER;
+  lr_idl_raised raised = LR_IDL_RAISED;
+  CHECK(pthread_create(&thread, NULL, take_and_leave, &listener) == 0);
+  WANT(lr_idl_caller_open(&caller, "127.0.0.1", port), LR_OK);
+  caller.patience = LR_SECOND / 2;
+  const Shapes_Desk desk = {&caller, LR_TEXT("desk")};
+  WANT(Shapes_Desk__get_size(desk, NULL, &raised), LR_ENDED_SYSTEM);
+  CHECK(is_system(&raised, "COMM_FAILURE", LR_COMPLETED_MAYBE));
+  WANT(Shapes_Desk__get_size(desk, NULL, &raised), LR_ENDED_SYSTEM);
+  CHECK(is_system(&raised, "TRANSIENT", LR_COMPLETED_NO));
+  lr_idl_raised_free(&raised);
+  lr_idl_caller_close(&caller);
+  CHECK(pthread_join(thread, NULL) == 0);
 }
 
 #define GET(TYPE, ...) got_of(&TYPE##__type, (const unsigned char[]){__VA_ARGS__}, sizeof(unsigned char[]){__VA_ARGS__})
@@ -413,12 +452,6 @@ static static_register odd;
 static int64_t call_by(const lr_idl_object *object, const lr_idl_operation *operation, const void *argument,
                        void *result, lr_idl_raised *raised) {
   return lr_idl_invoke(object, operation, (const void *const[]){argument}, (void *const[]){result}, raised);
-}
-
-static bool is_system(const lr_idl_raised *raised, const char *name, uint32_t completed) {
-  char id[80];
-  snprintf(id, sizeof id, "IDL:omg.org/CORBA/%s:1.0", name);
-  return raised->id != NULL && strcmp(raised->id, id) == 0 && raised->completed == completed && raised->members == NULL;
 }
 
 static void results(void) {
@@ -843,6 +876,7 @@ int main(void) {
   pthread_t thread;
   arguments();
   unreachable();
+  left_alone();
   octets();
   rooms();
   names();

@@ -32,7 +32,33 @@ static void arguments() {
   WANT(desk.keep(held).error() == LR_E_RANGE);
   WANT(desk.tell(std::string("a\0b", 3)).error() == LR_E_TEXT);
   caller.patience(std::chrono::milliseconds(50));
-  WANT(desk.tell("a").error() == LR_E_EXPIRED);
+  const auto told = desk.tell("a");
+  WANT(told.system() != nullptr && told.system()->id == "IDL:omg.org/CORBA/TRANSIENT:1.0");
+  WANT(told.system() != nullptr && told.system()->completed == lr::Completed::no);
+}
+
+// A server that takes a call, and is gone: it may have acted.
+static void left_alone() {
+  const int listener = socket(AF_INET, SOCK_STREAM, 0);
+  sockaddr_in name{};
+  socklen_t size = sizeof name;
+  name.sin_family = AF_INET;
+  name.sin_addr.s_addr = htonl(INADDR_LOOPBACK);
+  WANT(bind(listener, reinterpret_cast<sockaddr*>(&name), size) == 0 && listen(listener, 1) == 0);
+  WANT(getsockname(listener, reinterpret_cast<sockaddr*>(&name), &size) == 0);
+  std::thread server([listener] {
+    char room[1024];
+    const int fd = accept(listener, nullptr, nullptr);
+    WANT(recv(fd, room, sizeof room, 0) > 0);
+    close(listener);
+    close(fd);
+  });
+  auto caller = *lr::idl::Caller::open("127.0.0.1", ntohs(name.sin_port));
+  caller.patience(std::chrono::milliseconds(500));
+  const auto size_of = Shapes::Desk(caller, "desk").size();
+  server.join();
+  WANT(size_of.system() != nullptr && size_of.system()->id == "IDL:omg.org/CORBA/COMM_FAILURE:1.0");
+  WANT(size_of.system() != nullptr && size_of.system()->completed == lr::Completed::maybe);
 }
 
 static void octets() {
@@ -60,6 +86,7 @@ static void unions() {
 int main() {
   static_assert(Shapes::FEW == 3);
   arguments();
+  left_alone();
   octets();
   unions();
   return failures;

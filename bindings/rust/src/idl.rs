@@ -10,6 +10,8 @@ mod caller;
 mod codec;
 mod object;
 mod reference;
+#[cfg(feature = "std")]
+mod road;
 mod servant;
 
 #[cfg(feature = "std")]

@@ -1,7 +1,9 @@
 //! Calls of stubs over sockets, whatever becomes of their connections.
 
-use lemonrudder::idl::{Caller, Failure, Object};
-use lemonrudder::{Catalogue, Completed, Error, Moment, Server, Settings, SystemName};
+use lemonrudder::idl::{Caller, Failure, Object, Reference, SystemRaised};
+use lemonrudder::{
+    Catalogue, Completed, Error, Ior, Moment, Server, Settings, SystemName, Version,
+};
 use std::io::{Read, Write};
 use std::net::{SocketAddr, TcpListener, TcpStream};
 use std::thread::{self, JoinHandle};
@@ -90,6 +92,53 @@ fn object(address: SocketAddr) -> Object<Caller> {
     Object::new(Caller::open(address.ip().to_string(), address.port()).unwrap(), "c")
 }
 
+/// The object of several addresses.
+fn object_at(addresses: &[SocketAddr]) -> Object<Caller> {
+    let mut reference = Reference::default();
+    for address in addresses {
+        let host = address.ip().to_string();
+        let mut ior = Ior::iiop(ID, Version::V12, &host, address.port(), b"c").unwrap();
+        reference.profiles.extend(Reference::try_from(&mut ior).unwrap().profiles);
+    }
+    Object::of(&reference.to_text().unwrap()).unwrap()
+}
+
+/// An address where nobody listens.
+fn nobody() -> SocketAddr {
+    TcpListener::bind("127.0.0.1:0").unwrap().local_addr().unwrap()
+}
+
+/// A failure by a system exception.
+fn raised<O>(name: &str, completed: Completed) -> Failure<O> {
+    let id = format!("IDL:omg.org/CORBA/{name}:1.0");
+    Failure::System(SystemRaised { id, minor: 0, completed })
+}
+
+#[test]
+fn a_call_goes_to_the_next_address() {
+    let (lost, lost_by) = serving(&[Step::Lose]);
+    let (refused, refused_by) = serving(&[Step::Refuse]);
+    let (answered, answered_by) = serving(&[Step::Answer]);
+    let mut object = object_at(&[nobody(), lost, refused, answered]);
+    assert_eq!(object.is_a(ID), Ok(true));
+    // (it stays where it was answered)
+    assert_eq!(object.non_existent(), Ok(false));
+    drop(object);
+    assert_eq!(lost_by.join().unwrap(), 1);
+    assert_eq!(refused_by.join().unwrap(), 1);
+    assert_eq!(answered_by.join().unwrap(), 2);
+}
+
+#[test]
+fn a_call_that_was_sent_may_be_completed_where_nobody_is_left() {
+    let (address, served) = serving(&[Step::Lose]);
+    let mut object = object_at(&[nobody(), address]);
+    object.calls().set_patience(Duration::from_millis(200));
+    assert_eq!(object.is_a(ID).unwrap_err(), raised("COMM_FAILURE", Completed::Maybe));
+    assert_eq!(served.join().unwrap(), 1);
+    assert_eq!(object.is_a(ID).unwrap_err(), raised("TRANSIENT", Completed::No));
+}
+
 #[test]
 fn a_call_is_sent_again_until_it_is_answered() {
     let (address, served) = serving(&[Step::Close, Step::Lose, Step::Answer]);
@@ -113,11 +162,11 @@ fn transient_is_sent_again() {
 
 #[test]
 fn a_call_expires_where_nobody_listens() {
-    let address = TcpListener::bind("127.0.0.1:0").unwrap().local_addr().unwrap();
-    let mut object = object(address);
+    let mut object = object(nobody());
     object.calls().set_patience(Duration::from_millis(200));
     let begun = Instant::now();
-    assert_eq!(object.non_existent(), Err(Failure::Error(Error::Expired)));
+    let failure = object.non_existent().unwrap_err();
+    assert_eq!(failure, raised("TRANSIENT", Completed::No));
     assert!(begun.elapsed() >= Duration::from_millis(200));
 }
 
@@ -137,8 +186,7 @@ fn a_system_exception_is_a_failure() {
 #[test]
 fn an_object_is_that_of_a_reference() {
     let (address, served) = serving(&[Step::Answer]);
-    let version = lemonrudder::Version::V12;
-    let mut ior = lemonrudder::Ior::iiop(ID, version, "127.0.0.1", address.port(), b"c").unwrap();
+    let mut ior = Ior::iiop(ID, Version::V12, "127.0.0.1", address.port(), b"c").unwrap();
     let mut object = Object::of(&ior.to_text().unwrap()).unwrap();
     assert_eq!((object.non_existent(), object.key()), (Ok(false), &b"c"[..]));
     drop(object);

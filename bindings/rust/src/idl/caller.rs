@@ -1,9 +1,10 @@
-//! Calls over a socket.
+//! Calls over sockets.
 
-use super::object::{call, outcome, Calls, Failure, Object};
-use super::{Operation, String};
+use super::object::{call, outcome, Calls, Failure, Object, SystemRaised};
+use super::road::Road;
+use super::{Codec, Operation, Reference, String, Vec};
 use crate::cdr::Writer;
-use crate::{Client, Completion, Error, Ior, Moment};
+use crate::{Client, Completed, Ended, Error, Moment};
 use alloc::format;
 use std::io::{self, ErrorKind, Read, Write};
 use std::net::{TcpStream, ToSocketAddrs};
@@ -12,20 +13,67 @@ use std::time::Duration;
 
 /// How long calls are sent again where nothing else is said.
 const PATIENCE: Duration = Duration::from_secs(60);
+/// How long one of several addresses may take to be reached.
+const REACH: Duration = Duration::from_secs(10);
 /// How long a reply is waited for at a time: then what expired ends, and TRANSIENT is sent again.
 const SILENCE: Duration = Duration::from_millis(100);
 /// The first pause where the server is not there, and the longest.
 const PAUSES: (Duration, Duration) = (Duration::from_millis(20), Duration::from_secs(1));
+/// What a server raises that has not the object.
+const NOT_EXIST: &str = "IDL:omg.org/CORBA/OBJECT_NOT_EXIST:1.0";
 
-/// Makes calls over TCP, one at a time, and waits for each: it is sent again on each new connection,
-/// and after `TRANSIENT`, until it is answered or expires. Its client id is random.
+/// Makes calls over TCP, one at a time, and waits for each: it is sent again under its number on
+/// each new connection, and after `TRANSIENT`, until it is answered or expires. An address that
+/// can't be reached, is lost without an answer, or answers `TRANSIENT` is left for the next one. A
+/// call that is forwarded is asked for where it leads, and so are later ones of its key, until
+/// nobody answers there. Where no address can be reached as it expires, it ends by `TRANSIENT`,
+/// [`Completed::No`], or by `COMM_FAILURE`, [`Completed::Maybe`], if a connection was lost on which
+/// it was sent. Its client id is random.
 #[derive(Debug)]
 pub struct Caller {
     client: Client,
-    host: String,
-    port: u16,
+    id: String,
+    /// The number of the last call.
+    last: i32,
     patience: Duration,
+    home: Road,
+    /// A key that was forwarded, and where that leads, while somebody answers there.
+    led: Option<(Vec<u8>, Road)>,
+    /// Whether the client asks there.
+    is_led: bool,
+    link: Link,
+    /// Whether a connection was lost on which the call was sent.
+    is_lost: bool,
+}
+
+/// A connection, if there is one.
+#[derive(Debug, Default)]
+struct Link {
     stream: Option<TcpStream>,
+    /// Whether an answer came on it.
+    is_heard: bool,
+    /// Whether a call was sent on it that is not answered.
+    is_sent: bool,
+}
+
+/// How the wait for a call ends.
+enum Settled<O: Operation> {
+    /// By what came of it.
+    Ended(Result<O::Results, Failure<O>>),
+    /// By a forward.
+    Led(Reference),
+    /// Nobody answers where it was led.
+    Unanswered,
+}
+
+/// Pauses, each twice as long as the one before.
+struct Pauses(Duration);
+
+impl Pauses {
+    fn wait(&mut self) {
+        thread::sleep(self.0);
+        self.0 = PAUSES.1.min(2 * self.0);
+    }
 }
 
 impl Caller {
@@ -35,11 +83,16 @@ impl Caller {
     ///
     /// `Memory`.
     pub fn open(host: impl Into<String>, port: u16) -> Result<Caller, Error> {
+        Caller::by(Road::to(host.into(), port))
+    }
+
+    fn by(home: Road) -> Result<Caller, Error> {
         let [one, two] = crate::seeds::random();
-        let mut client = Client::open(format!("{one:016x}{two:016x}"))?;
-        client.keep_transient(true);
-        let (host, patience, stream) = (host.into(), PATIENCE, None);
-        Ok(Caller { client, host, port, patience, stream })
+        let id = format!("{one:016x}{two:016x}");
+        let client = opened(&id, &home, 0)?;
+        let (patience, link) = (PATIENCE, Link::default());
+        let (last, led, is_led, is_lost) = (0, None, false, false);
+        Ok(Caller { client, id, last, patience, home, led, is_led, link, is_lost })
     }
 
     /// Says how long the calls that come are sent again: 60 seconds in a new one.
@@ -47,35 +100,88 @@ impl Caller {
         self.patience = patience;
     }
 
-    /// Waits for the call that is pending, and gives what is made of its end.
-    fn settle<T>(&mut self, ended: impl FnOnce(&Completion<'_>) -> T) -> Result<T, Error> {
-        let (mut pause, longest) = PAUSES;
-        let mut is_down = false;
+    fn road(&mut self) -> &mut Road {
+        match &mut self.led {
+            Some((_, road)) if self.is_led => road,
+            _ => &mut self.home,
+        }
+    }
+
+    /// Goes home, or where a key was led, and gives the key there. The next call gets the number
+    /// after this one.
+    fn turn_to(&mut self, key: &[u8], last: i32) -> Result<Vec<u8>, Error> {
+        let led = self.led.as_ref().filter(|(from, _)| from == key).map(|(_, road)| road);
+        if led.is_some() != self.is_led || last != self.last {
+            self.client = opened(&self.id, led.unwrap_or(&self.home), last)?;
+            (self.is_led, self.last) = (led.is_some(), last);
+            self.link = Link::default();
+        }
+        let led = self.led.as_ref().filter(|_| self.is_led);
+        Ok(led.map_or_else(|| key.to_vec(), |(_, road)| road.key.clone()))
+    }
+
+    /// Waits until the call of a number has ended.
+    fn settle<O: Operation>(&mut self, number: i32) -> Result<Settled<O>, Error> {
+        let (mut failed, mut pauses) = (0, Pauses(PAUSES.0));
         loop {
             self.client.tick(Moment::now());
-            if let Some(completion) = self.client.completed()? {
-                return Ok(ended(&completion));
+            match self.client.completed()? {
+                Some(completion) if completion.call == number => {
+                    return self.link.settled(&completion, self.is_lost);
+                }
+                _ => {}
             }
-            if is_down {
-                thread::sleep(pause);
-                pause = longest.min(2 * pause);
-            }
-            is_down = self.talk().is_err();
-            if is_down {
-                self.stream = None;
-                self.client.lost();
+            if self.talk().is_err() && !self.move_on(&mut failed, &mut pauses) {
+                self.client.cancel(number)?;
+                self.led = None;
+                return Ok(Settled::Unanswered);
             }
         }
     }
 
+    /// Leaves an address for the next one, but for one that had answered on this connection. After
+    /// each connection, and after a round of addresses, it waits. Not so where a call was led to
+    /// where nobody answers.
+    fn move_on(&mut self, failed: &mut usize, pauses: &mut Pauses) -> bool {
+        let left = core::mem::take(&mut self.link);
+        let was_there = left.stream.is_some();
+        self.client.lost();
+        self.is_lost |= left.is_sent;
+        if left.is_heard {
+            return true;
+        }
+        let road = self.road();
+        let count = road.addresses.len();
+        road.next = (road.next + 1) % count;
+        *failed = if was_there { 0 } else { *failed + 1 };
+        if self.is_led && *failed == count {
+            return false;
+        }
+        if was_there || *failed % count == 0 {
+            pauses.wait();
+        }
+        true
+    }
+
+    /// Connects with the address that is to be asked.
+    fn connect(&mut self) -> io::Result<()> {
+        let patience = self.patience;
+        let road = self.road();
+        let (host, port) = &road.addresses[road.next];
+        let share = match u32::try_from(road.addresses.len()).unwrap_or(u32::MAX) {
+            1 => patience,
+            count => REACH.min(patience / count),
+        };
+        self.link.stream = Some(connected(host, *port, share)?);
+        self.client.connected(Moment::now()).map_err(io::Error::other)
+    }
+
     /// Connects, sends what is due, or takes what comes.
     fn talk(&mut self) -> io::Result<()> {
-        let Some(stream) = &mut self.stream else {
-            self.stream = Some(connected(&self.host, self.port, self.patience)?);
-            return self.client.connected(Moment::now()).map_err(io::Error::other);
-        };
+        let Some(stream) = &mut self.link.stream else { return self.connect() };
         let due = self.client.take_output();
         if !due.is_empty() {
+            self.link.is_sent = true;
             return stream.write_all(&due);
         }
         let mut room = [0; 4096];
@@ -85,7 +191,7 @@ impl Caller {
             Err(error) if error.kind() == ErrorKind::Interrupted => Ok(()),
             // (a time-out)
             Err(error) if matches!(error.kind(), ErrorKind::WouldBlock | ErrorKind::TimedOut) => {
-                self.client.resend(Moment::now()).map_err(io::Error::other)
+                self.resend()
             }
             Err(error) => Err(error),
         }
@@ -94,6 +200,58 @@ impl Caller {
             false => Err(ErrorKind::ConnectionAborted.into()),
         })
     }
+
+    /// What `TRANSIENT` left pending is due again: here, if there is no other address.
+    fn resend(&mut self) -> io::Result<()> {
+        self.client.resend(Moment::now()).map_err(io::Error::other)?;
+        if self.road().addresses.len() == 1 || self.client.output(&mut [0]) == 0 {
+            return Ok(());
+        }
+        (self.link.is_sent, self.link.is_heard) = (false, false);
+        Err(ErrorKind::ConnectionAborted.into())
+    }
+}
+
+impl Link {
+    /// What came of a call that has ended; `is_lost` as of the caller.
+    fn settled<O: Operation>(
+        &mut self,
+        completion: &crate::Completion<'_>,
+        is_lost: bool,
+    ) -> Result<Settled<O>, Error> {
+        if completion.ended == Ended::Expired {
+            let is_there = self.stream.is_some();
+            let failure = if is_there { Error::Expired.into() } else { unreached(is_lost) };
+            return Ok(Settled::Ended(Err(failure)));
+        }
+        (self.is_sent, self.is_heard) = (false, completion.ended != Ended::Sent || self.is_heard);
+        if completion.ended == Ended::Forwarded {
+            return Ok(Settled::Led(Reference::read(&mut completion.reader())?));
+        }
+        Ok(Settled::Ended(outcome(completion)))
+    }
+}
+
+/// How a call ends where no address can be reached.
+fn unreached<O>(is_lost: bool) -> Failure<O> {
+    let (name, completed) = match is_lost {
+        true => ("COMM_FAILURE", Completed::Maybe),
+        false => ("TRANSIENT", Completed::No),
+    };
+    Failure::System(SystemRaised {
+        id: format!("IDL:omg.org/CORBA/{name}:1.0"),
+        minor: 0,
+        completed,
+    })
+}
+
+/// A client of an id, by the version of a road, whose next call gets the number after this one.
+fn opened(id: &str, road: &Road, last: i32) -> Result<Client, Error> {
+    let mut client = Client::open(id)?;
+    client.set_version(road.version)?;
+    client.keep_transient(true);
+    client.skip_to(last)?;
+    Ok(client)
 }
 
 /// A connection with a server that is there within a time.
@@ -114,26 +272,54 @@ fn connected(host: &str, port: u16, patience: Duration) -> io::Result<TcpStream>
 }
 
 impl Calls for Caller {
+    /// Makes a call under one number, wherever it leads, until it has ended.
     fn call<O: Operation>(
         &mut self,
         key: &[u8],
         arguments: &Writer,
     ) -> Result<O::Results, Failure<O>> {
-        let now = Moment::now();
-        call::<O>(&mut self.client, now, now + self.patience, key, arguments)?;
-        self.settle(outcome)?
+        let (expiration, last) = (Moment::now() + self.patience, self.last);
+        let mut pauses = Pauses(PAUSES.0);
+        (self.is_lost, self.link.is_sent) = (false, false);
+        for hops in 0_u64.. {
+            if hops > 2 {
+                pauses.wait();
+            }
+            let there = self.turn_to(key, last)?;
+            let made = call::<O>(&mut self.client, Moment::now(), expiration, &there, arguments);
+            self.last = match made {
+                Err(Error::Expired) if hops > 0 => return Err(unreached(self.is_lost)),
+                made => made?,
+            };
+            match self.settle(self.last)? {
+                Settled::Ended(outcome) => {
+                    if matches!(&outcome, Err(Failure::System(raised)) if raised.id == NOT_EXIST) {
+                        // (the next call of the key is asked for at home)
+                        self.led = None;
+                    }
+                    return outcome;
+                }
+                Settled::Led(reference) => {
+                    let road = Road::of(&reference).ok_or(Error::Outcome)?;
+                    self.led = Some((key.to_vec(), road));
+                }
+                Settled::Unanswered => {}
+            }
+        }
+        Err(Error::Expired.into())
     }
 }
 
 impl Object<Caller> {
-    /// The object of a stringified reference, at its first address of IIOP, by a caller of its own.
+    /// The object of a stringified reference, at all its addresses of IIOP under the key of the
+    /// first one, also in components `TAG_ALTERNATE_IIOP_ADDRESS`, by a caller of its own.
     ///
     /// # Errors
     ///
     /// `Reference`: it is none, or has no such address; `Memory`.
     pub fn of(reference: &str) -> Result<Object<Caller>, Error> {
-        let address = reference.parse::<Ior>()?.address()?.ok_or(Error::Reference)?;
-        let host = String::from_utf8(address.host).map_err(|_| Error::Reference)?;
-        Ok(Object::new(Caller::open(host, address.port)?, address.key))
+        let road = Road::of(&reference.parse()?).ok_or(Error::Reference)?;
+        let key = road.key.clone();
+        Ok(Object::new(Caller::by(road)?, key))
     }
 }

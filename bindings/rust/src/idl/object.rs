@@ -7,7 +7,7 @@ use crate::{Call, Client, Completed, Completion, Ended, Error, Moment, RawCall, 
 use crate::{Order, Type, Wish};
 use core::fmt;
 
-/// A system exception that a server answered.
+/// A system exception: of a server, or of a [`Caller`](super::Caller) that reaches none.
 #[derive(Clone, Debug, PartialEq, Eq)]
 pub struct SystemRaised {
     /// Its repository id, as `IDL:omg.org/CORBA/TRANSIENT:1.0`.
@@ -27,7 +27,7 @@ pub enum Failure<O> {
     System(SystemRaised),
     /// `Range` and `Text`: an argument is none of its type, and nothing was sent. `Expired`: no reply
     /// came. `Value` and `Short`: the reply has no results of their types. `Outcome`: it has another
-    /// exception, or leads elsewhere. Else what [`Client`] answers.
+    /// exception, or leads to no address. Else what [`Client`] answers.
     Error(Error),
 }
 
