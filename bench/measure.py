@@ -5,9 +5,9 @@ usage: measure.py OURS PLAIN GIOP [--rounds 5] [--only WORD] [--no-instructions]
 
 OURS is the program of crates/benches, PLAIN that of bench/plain.rs, GIOP the program `giop`. Each row is a
 kind of work: what it does in one count, so many counts, and the octets of a piece. Times are processor time, the best
-of so many rounds, in which the programs take turns, with the least and the greatest ratio of a round. The time of making
-the stream is left out: it is that of the same program with pieces of 0 octets. Where both are nearly equal, a round is
-of 20 runs.
+of so many rounds, in which the programs take turns, with the least and the greatest ratio of a round. The time of
+making the stream is left out: it is that of the same program with pieces of 0 octets. Where both are nearly equal, a
+round is of 20 runs.
 Instructions are those that callgrind counts, for one count; of `check` and `show` for one digit. The last columns
 are the octets of memory for each digit.
 
@@ -24,8 +24,8 @@ import tempfile
 sys.path.insert(0, os.path.dirname(os.path.dirname(os.path.abspath(__file__))))
 from tests.giop_peers import request  # noqa: E402
 
-# what is done, the word for it, octets of a piece, counts that are timed, in so many runs, and counts whose instructions
-# are counted
+# what is done, the word for it, octets of a piece, counts that are timed, in so many runs, and counts whose
+# instructions are counted
 ROWS = [
     ("a Request of 84 octets is read", "read", 84, 1_000_000, 20, 10_000),
     ("a Reply of 28", "reply", 84, 1_000_000, 20, 10_000),
@@ -37,7 +37,7 @@ ROWS = [
     ("eight cut messages interleave", "cut", 4096, 5_000, 20, 1_000),
     ("a message of 1 MB is whole", "large", 4096, 100, 20, 20),
     ("it is cut", "large_cut", 4096, 100, 20, 20),
-    ("a reference's text is parsed", "reference", 1, 200_000, 1, 5_000),
+    ("a reference's text is parsed", "reference", 1, 1_000_000, 1, 5_000),
 ]
 # the least processor time, in seconds, of which a round's work has a figure
 LEAST = 0.05
@@ -94,8 +94,8 @@ def figure(title, value):
 
 
 def in_turns(rounds, programs, words, source=None, reads=True, runs=1):
-    """The time of each program in each round of so many runs, and the most memory; they take turns. Where they read, they
-    say of how much."""
+    """The time of each program in each round of so many runs, and the most memory; they take turns. Where they read,
+    they say of how much."""
     time, memory = {name: [0] * rounds for name in programs}, dict.fromkeys(programs, 0)
     for number in range(rounds * runs):
         printed = set()
@@ -122,7 +122,7 @@ def net_times(rounds, programs, kind, piece, count, runs):
     """The times of a kind of work, without that of making its stream, and the ratios of the rounds."""
     whole, _ = in_turns(rounds, programs, [str(count), str(piece), kind], runs=runs)
     made, _ = in_turns(rounds, programs, [str(count), "0", kind], reads=False, runs=runs)
-    net = {name: [each - least for each in whole[name]] for name, least in ((name, min(made[name])) for name in programs)}
+    net = {name: [each - min(made[name]) for each in whole[name]] for name in programs}
     return {name: min(net[name]) / count / runs * 1e9 for name in programs}, ratios_of(f"{kind} {piece}", net)
 
 

@@ -3,9 +3,9 @@
  *
  *     cc -o bank bank.c loop_threads.c $(pkg-config --cflags --libs lemonrudder) -pthread
  *
- * Each thread has peers of its own. What the server does, `perform` and `settle` among it, it does under the lock, so that
- * these two need none; what the system does is done beside it. Otherwise all is as in loop.c: peers of a thread take
- * turns, and each is read, fed and sent as much as there. It is for Linux.
+ * Each thread has peers of its own, and so many places for them that all have LOOP_PEERS. The server is called under the
+ * lock, `perform` and `settle` too, which so need none; the system is called beside it. All else is as in loop.c: peers
+ * of a thread take turns, and each is read, fed and sent as much as there. It is for Linux.
  */
 #define _DEFAULT_SOURCE
 #include "loop.h"
@@ -327,7 +327,7 @@ static void part_from(struct loop *loop, struct peer *peer) {
 }
 
 /* Parts from a peer whose time is over, at once where it takes nothing or its stream has ended. One that waits for a
- * parked request has more time. A connection that is lost, since there was no memory for a reply, is found here alone. */
+ * parked request has more time. A connection that is lost, as there was no memory for a reply, is found here alone. */
 static void look_at(struct loop *loop, struct peer *peer, int64_t second) {
   pthread_mutex_lock(&lock);
   bool is_free = is_idle(peer), is_closed = lr_server_is_closed(served, peer->connection) != 0;
