@@ -4,14 +4,15 @@
 usage: measure.py OURS PLAIN GIOP [--rounds 5] [--only WORD] [--no-instructions]
 
 OURS is the program of crates/benches, PLAIN that of bench/plain.rs, GIOP the program `giop`. Each row is a
-kind of work: what it does in one count, so many counts, and the octets of a piece. Times are user time, the best
-of so many rounds, in which the programs take turns; of `check` and `show`, which read their input, user and
-system time. The time of making the stream is left out: it is that of the same program with pieces of 0 octets.
+kind of work: what it does in one count, so many counts, and the octets of a piece. Times are processor time, the best
+of so many rounds, in which the programs take turns, with the least and the greatest ratio of a round. The time of
+making the stream is left out: it is that of the same program with pieces of 0 octets. Where both are nearly equal, a
+round is of 20 runs.
 Instructions are those that callgrind counts, for one count; of `check` and `show` for one digit. The last columns
 are the octets of memory for each digit.
 
-The status is 1 where the programs don't print the same, where nothing was read, and where work takes no more time,
-instructions or memory than none: such figures can't be.
+The status is 1 where the programs don't print the same, where nothing was read, where work takes no more time,
+instructions or memory than none, and where a round's work takes less than 50 milliseconds: such figures can't be.
 """
 import argparse
 import os
@@ -23,20 +24,23 @@ import tempfile
 sys.path.insert(0, os.path.dirname(os.path.dirname(os.path.abspath(__file__))))
 from tests.giop_peers import request  # noqa: E402
 
-# what is done, the word for it, octets of a piece, counts that are timed, and counts whose instructions are counted
+# what is done, the word for it, octets of a piece, counts that are timed, in so many runs, and counts whose
+# instructions are counted
 ROWS = [
-    ("a Request of 84 octets is read", "read", 84, 1_000_000, 10_000),
-    ("a Reply of 28", "reply", 84, 1_000_000, 10_000),
-    ("a LocateRequest of 25", "locate", 84, 1_000_000, 10_000),
-    ("a Request comes in pieces of 1", "request", 1, 300_000, 3_000),
-    ("in pieces of 84", "request", 84, 1_000_000, 10_000),
-    ("in pieces of 4,096", "request", 4096, 1_000_000, 10_000),
-    ("in pieces of 65,536", "request", 65536, 1_000_000, 10_000),
-    ("eight cut messages interleave", "cut", 4096, 5_000, 1_000),
-    ("a message of 1 MB is whole", "large", 4096, 100, 20),
-    ("it is cut", "large_cut", 4096, 100, 20),
-    ("a reference's text is parsed", "reference", 1, 200_000, 5_000),
+    ("a Request of 84 octets is read", "read", 84, 1_000_000, 20, 10_000),
+    ("a Reply of 28", "reply", 84, 1_000_000, 20, 10_000),
+    ("a LocateRequest of 25", "locate", 84, 1_000_000, 20, 10_000),
+    ("a Request is a piece of its own", "request", 84, 1_000_000, 20, 10_000),
+    ("it comes in pieces of 1", "request", 1, 300_000, 1, 3_000),
+    ("in pieces of 4,096", "request", 4096, 1_000_000, 20, 10_000),
+    ("in pieces of 65,536", "request", 65536, 1_000_000, 20, 10_000),
+    ("eight cut messages interleave", "cut", 4096, 5_000, 20, 1_000),
+    ("a message of 1 MB is whole", "large", 4096, 100, 20, 20),
+    ("it is cut", "large_cut", 4096, 100, 20, 20),
+    ("a reference's text is parsed", "reference", 1, 1_000_000, 1, 5_000),
 ]
+# the least processor time, in seconds, of which a round's work has a figure
+LEAST = 0.05
 # a Request of 84 octets in digits
 DIGITS = request(5, b"c", "add", bytes([0, 0, 0, 7]), number=1, expiration=100).hex()
 # lines of digits whose time is taken, and whose instructions are counted
@@ -44,7 +48,7 @@ LINES = {"time": 595_000, "instructions": 5_950}
 
 
 def run(words, source=None):
-    """User time of a run, or user and system time where it has a source, what it prints, and how much memory it takes."""
+    """Processor time of a run, what it prints, and how much memory it takes."""
     readable, writable = os.pipe()
     child = os.fork()
     if child == 0:
@@ -59,7 +63,7 @@ def run(words, source=None):
     _, status, usage = os.wait4(child, 0)
     if status != 0:
         sys.exit(f"{words}: status {status}")
-    return usage.ru_utime + (usage.ru_stime if source else 0), printed, usage.ru_maxrss * 1024
+    return usage.ru_utime + usage.ru_stime, printed, usage.ru_maxrss * 1024
 
 
 def instructions(words, source=None):
@@ -89,15 +93,16 @@ def figure(title, value):
     return value
 
 
-def best_of(rounds, programs, words, source=None, reads=True):
-    """The least time of each program, and the most memory; they take turns. Where they read, they say of how much."""
-    time, memory = {}, {}
-    for _ in range(rounds):
+def in_turns(rounds, programs, words, source=None, reads=True, runs=1):
+    """The time of each program in each round of so many runs, and the most memory; they take turns. Where they read,
+    they say of how much."""
+    time, memory = {name: [0] * rounds for name in programs}, dict.fromkeys(programs, 0)
+    for number in range(rounds * runs):
         printed = set()
         for name in programs:
             took, text, held = run(programs[name] + words, source)
-            time[name] = min(time.get(name, took), took)
-            memory[name] = max(memory.get(name, 0), held)
+            time[name][number // runs] += took
+            memory[name] = max(memory[name], held)
             printed.add(text)
         if len(printed) != 1:
             sys.exit(f"{words}: the programs print differently, as {[text[:80] for text in printed]}")
@@ -106,11 +111,19 @@ def best_of(rounds, programs, words, source=None, reads=True):
     return time, memory
 
 
-def net_times(rounds, programs, kind, piece, count):
-    """The times of a kind of work, without that of making its stream."""
-    whole, _ = best_of(rounds, programs, [str(count), str(piece), kind])
-    made, _ = best_of(rounds, programs, [str(count), "0", kind], reads=False)
-    return {name: whole[name] - made[name] for name in programs}
+def ratios_of(title, time):
+    """The ratio of ours to the plain one's time in each round."""
+    if min(min(rounds) for rounds in time.values()) < LEAST:
+        sys.exit(f"{title}: a round of less than {LEAST:g} s: {time}")
+    return [ours / plain for ours, plain in zip(time["ours"], time["plain"])]
+
+
+def net_times(rounds, programs, kind, piece, count, runs):
+    """The times of a kind of work, without that of making its stream, and the ratios of the rounds."""
+    whole, _ = in_turns(rounds, programs, [str(count), str(piece), kind], runs=runs)
+    made, _ = in_turns(rounds, programs, [str(count), "0", kind], reads=False, runs=runs)
+    net = {name: [each - min(made[name]) for each in whole[name]] for name in programs}
+    return {name: min(net[name]) / count / runs * 1e9 for name in programs}, ratios_of(f"{kind} {piece}", net)
 
 
 def net_instructions(programs, kind, piece, count):
@@ -119,13 +132,15 @@ def net_instructions(programs, kind, piece, count):
             for name, words in programs.items()}
 
 
-def line(title, time, counted, memory=None):
+def line(title, time, ratios, counted, memory=None):
     """A row: nanoseconds and instructions by both programs, each with the ratio of ours to the plain one's."""
     parts = [f"{title:<32}"]
     for each, form in ((time, ".1f"), (counted, ".1f"), (memory, ".2f")):
         if each:
             ours, plain = figure(title, each["ours"]), figure(title, each["plain"])
             parts.append(f"{ours:>12,{form}} {plain:>12,{form}} {ours / plain:>6.2f}")
+        if each is time:
+            parts.append(f"({min(ratios):.2f} to {max(ratios):.2f})")
     print(" ".join(parts), flush=True)
 
 
@@ -138,12 +153,12 @@ def digits_row(given, programs, word):
             with open(sources[what], "w", encoding="ascii") as file:
                 file.write((DIGITS + "\n") * lines)
         counts = {what: len(DIGITS) * lines for what, lines in LINES.items()}
-        time, memory = best_of(given.rounds, programs, [word], sources["time"])
+        time, memory = in_turns(given.rounds, programs, [word], sources["time"])
         counted = None
         if not given.no_instructions:
             counted = {name: instructions(words + [word], sources["instructions"]) / counts["instructions"] for name, words in programs.items()}
-        line(f"`{word}`, a digit", {name: time[name] / counts["time"] * 1e9 for name in programs}, counted,
-             {name: memory[name] / counts["time"] for name in programs})
+        line(f"`{word}`, a digit", {name: min(time[name]) / counts["time"] * 1e9 for name in programs},
+             ratios_of(word, time), counted, {name: memory[name] / counts["time"] for name in programs})
 
 
 def main():
@@ -155,14 +170,15 @@ def main():
     parser.add_argument("--only", default="")
     parser.add_argument("--no-instructions", action="store_true")
     given = parser.parse_args()
-    print(f"{'':<32} {'nanoseconds':>12} {'plain':>12} {'ratio':>6} {'instructions':>12} {'plain':>12} {'ratio':>6}")
+    print(f"{'':<32} {'nanoseconds':>12} {'plain':>12} {'ratio':>6} {'of rounds':>14} "
+          f"{'instructions':>12} {'plain':>12} {'ratio':>6}")
     programs = {"ours": [given.ours, "frames"], "plain": [given.plain]}
-    for title, kind, piece, count, fewer in ROWS:
+    for title, kind, piece, count, runs, fewer in ROWS:
         if given.only not in title:
             continue
-        time = net_times(given.rounds, programs, kind, piece, count)
+        time, ratios = net_times(given.rounds, programs, kind, piece, count, runs)
         counted = None if given.no_instructions else net_instructions(programs, kind, piece, fewer)
-        line(title, {name: time[name] / count * 1e9 for name in programs}, counted)
+        line(title, time, ratios, counted)
     programs["ours"] = [given.giop]
     for word in ("check", "show"):
         if given.only in word:

@@ -7,10 +7,10 @@ OURS is the program of bench/c/engine.c, ENGINE that of crates/benches. The mess
 there are three columns: `few` calls what a server can't do without, `loop` all that examples/bank.c and its loop call,
 and `parks` the few where each request is parked before it is performed.
 Instructions are those that callgrind counts for a message, without those of making the stream; they don't depend on what
-else the machine does. Times are user time, the best of so many rounds, in which the programs take turns. All programs
+else the machine does. Times are processor time, the best of so many rounds, in which the programs take turns. All programs
 have to print the same.
 
-With --calls it prints instead what each function of the library takes of a message in pieces of 84, and the heap, with
+With --calls it prints instead what each function of the library takes of a message that is a piece, and the heap, with
 all that they call.
 """
 import argparse
@@ -22,7 +22,9 @@ import tempfile
 from measure import figure, instructions, run
 
 KINDS = ["add", "repeat", "locate"]
-SIZES = [1, 84, 4096, 65536]
+# the octets of a message, which is first a piece of its own
+OWN = {"add": 52, "repeat": 84, "locate": 25, "rising": 84}
+SIZES = [4096, 65536, 1]
 KEYED = [1024, 65536]
 FUNCTIONS = r"lr_server_\w+|lr_[gp]\w+|malloc|realloc|free"
 
@@ -57,7 +59,7 @@ def count_instructions(given, programs):
     head("instructions a message", programs)
     for kind in KINDS:
         made = {name: instructions(words + [str(given.count), "0", kind]) for name, words in programs.items()}
-        for size in SIZES:
+        for size in [OWN[kind], *SIZES]:
             asked = [str(given.count), str(size), kind]
             same(programs, asked)
             line(f"{kind}, pieces of {size:,}",
@@ -76,7 +78,7 @@ def count_calls(given, programs):
     for kind in [*KINDS, "rising"]:
         for name, words in programs.items():
             with tempfile.TemporaryDirectory() as folder:
-                asked = [str(given.count), "84", kind]
+                asked = [str(given.count), str(OWN[kind]), kind]
                 subprocess.run(["valgrind", "--tool=callgrind", f"--callgrind-out-file={folder}/out", *words, *asked],
                                capture_output=True, check=True)
                 said = subprocess.run(["callgrind_annotate", "--inclusive=yes", "--threshold=100", f"{folder}/out"],
@@ -90,17 +92,17 @@ def count_calls(given, programs):
 
 
 def time_messages(given, programs):
-    """Prints the nanoseconds of a message, in pieces of 84."""
-    head(f"nanoseconds a message in pieces of 84, the best of {given.rounds}", programs)
+    """Prints the nanoseconds of a message that is a piece."""
+    head(f"nanoseconds a message, each a piece, the best of {given.rounds}", programs)
     for kind in [*KINDS, "rising"]:
         best = {}
         for _ in range(given.rounds):
-            for size in ("0", "84"):
+            for size in ("0", str(OWN[kind])):
                 for name, words in programs.items():
                     took, _, _ = run(words + [str(given.time_count), size, kind])
                     best[name, size] = min(best.get((name, size), took), took)
         title = "a new key, 1,024 kept" if kind == "rising" else kind
-        line(title, {name: (best[name, "84"] - best[name, "0"]) / given.time_count * 1e9 for name in programs}, ".0f")
+        line(title, {name: (best[name, str(OWN[kind])] - best[name, "0"]) / given.time_count * 1e9 for name in programs}, ".0f")
 
 
 def main():

@@ -6,9 +6,10 @@ usage: measure_server.py OURS PLAIN [--rounds 5] [--count 1000000] [--no-instruc
 OURS is the program of crates/benches, PLAIN that of bench/plain.rs. First both play the streams of tests/compare_server.py.
 
 The streams that are timed have COUNT messages of a kind: `add` is a Request of 52 octets without FT_REQUEST that is
-performed, `repeat` one of 84 octets of which all but the first repeat the first, `locate` a LocateRequest of 25 octets. Each
-time is user time, the best of so many rounds, in which the programs take turns. The time of making the stream is left
-out: it is that of the same program with pieces of 0 octets. Instructions are those that callgrind counts for a message.
+performed, `repeat` one of 84 octets of which all but the first repeat the first, `locate` a LocateRequest of 25 octets, each
+first a piece of its own. Each time is processor time, the best of so many rounds, in which the programs take turns, with the
+least and the greatest ratio of a round. The time of making the stream is left out: it is that of the same program with pieces
+of 0 octets. Instructions are those that callgrind counts for a message.
 
 Of the other kinds each Request has a key of its own and is a piece of its own. Of `rising` and `scattered` it has 84 octets,
 and all are one client's; of `clients` and `together` it has 116, and each is of a client of its own, whose id has 32. The
@@ -35,7 +36,7 @@ from tests.compare_server import compare
 # the octets of a message
 MESSAGES = {"add": 52, "repeat": 84, "locate": 25, "rising": 84, "scattered": 84, "clients": 116, "together": 116}
 KINDS = ["add", "repeat", "locate"]
-SIZES = [1, 84, 4096, 65536]
+SIZES = [4096, 65536, 1]
 # the messages, how many outcomes are kept, and of each client
 LARGE = 65536
 KEYED = [(kind, entries, entries) for kind in ("rising", "scattered") for entries in (1024, LARGE)]
@@ -45,6 +46,8 @@ MORE = 10_000
 # requests that are parked at a time, and of which the memory is told
 PARKED = [1, 64]
 MANY_PARKED = 131_072
+# seconds: a difference of times that is less is none
+LEAST = 0.05
 # what the most memory of two runs of one program may differ by, in octets
 APART = 1_000_000
 
@@ -71,11 +74,16 @@ def answered(text, count, size, kind):
     return int(found[2]), int(found[4] or 0)
 
 
+def sizes_of(kind):
+    """The octets of a piece: first those of a message."""
+    return [MESSAGES[kind], *SIZES]
+
+
 class Timed:
-    """The least user time of each program by its words, and the least time of its last message."""
+    """The processor time of each program by its words, in each round, and the least time of its last message."""
 
     def __init__(self, engines):
-        self.engines, self.best, self.last, self.sums = engines, {}, {}, {}
+        self.engines, self.took, self.last, self.sums = engines, {}, {}, {}
 
     def take(self, *row):
         """Runs each program once."""
@@ -84,18 +92,28 @@ class Timed:
             sum_, last = answered(text, *row[:3])
             if self.sums.setdefault(row, sum_) != sum_:
                 sys.exit(f"{name}, {row}: the checksum is {sum_}, not {self.sums[row]}")
-            self.best[name, row] = min(self.best.get((name, row), took), took)
+            self.took.setdefault((name, row), []).append(took)
             self.last[name, row] = min(self.last.get((name, row), last), last)
 
     def net(self, count, size, *others):
-        """The times without that of making the messages."""
-        return {name: self.best[name, (count, size, *others)] - self.best[name, (count, 0, *others)] for name in self.engines}
+        """The times without that of making the messages, in each round."""
+        made = {name: min(self.took[name, (count, 0, *others)]) for name in self.engines}
+        net = {name: [took - made[name] for took in self.took[name, (count, size, *others)]] for name in self.engines}
+        if min(min(took) for took in net.values()) < LEAST:
+            sys.exit(f"{others} in pieces of {size}: less than {LEAST:g} s: {net}")
+        return net
 
 
 def pair(title, cost, form):
     """What both cost, and the ratio."""
     ours, plain = figure(f"{title}, ours", cost["ours"]), figure(f"{title}, plain", cost["plain"])
     return f"{ours:{form}} {plain:{form}} {ours / plain:5.2f}"
+
+
+def timing(title, net):
+    """The least times, their ratio, and the least and greatest ratio of a round."""
+    ratios = [ours / plain for ours, plain in zip(net["ours"], net["plain"])]
+    return f"{pair(title, {name: min(took) for name, took in net.items()}, '7.3f')} ({min(ratios):.2f} to {max(ratios):.2f})"
 
 
 def counted(engines, *row):
@@ -113,9 +131,9 @@ def streams(engines, timed, given):
     print(f"{'kind':>7} {'piece':>6}   seconds of {given.count}, ours, plain, ratio; instructions a message, ours, plain, ratio")
     for kind in KINDS:
         made = None if given.no_instructions else counted(engines, MORE, 0, kind)
-        for size in SIZES:
+        for size in sizes_of(kind):
             title = f"{kind:>7} {size:>6}"
-            line = pair(title, timed.net(given.count, size, kind), "7.3f")
+            line = timing(title, timed.net(given.count, size, kind))
             if made:
                 line += "   " + pair(title, net(counted(engines, MORE, size, kind), made, MORE), "8.0f")
             print(f"{title}   {line}", flush=True)
@@ -126,7 +144,7 @@ def keyed(engines, timed, given):
     print(f"{'kind':>9} {'kept':>6} {'share':>6}   seconds of {given.count}; instructions a message; megabytes")
     for kind, *kept in KEYED:
         title = f"{kind:>9} {kept[0]:>6} {kept[1]:>6}"
-        line = pair(title, timed.net(given.count, 84, kind, *kept), "7.3f")
+        line = timing(title, timed.net(given.count, 84, kind, *kept))
         if not given.no_instructions:
             full, more = (counted(engines, kept[0] + count, 84, kind, *kept) for count in (0, MORE))
             line += "   " + pair(title, net(more, full, MORE), "8.0f")
@@ -142,7 +160,7 @@ def all_at_once(engines, timed, given):
     title = f"{LARGE:,} outcomes expire at one moment"
     print(f"{title}: milliseconds ours, plain, ratio")
     print(f"    the one message   {pair(title, {name: timed.last[name, row] / 1e6 for name in engines}, '8.2f')}")
-    print(f"    all {LARGE + 1:,}        {pair(title, {name: timed.best[name, row] * 1e3 for name in engines}, '8.2f')}")
+    print(f"    all {LARGE + 1:,}        {pair(title, {name: min(timed.took[name, row]) * 1e3 for name in engines}, '8.2f')}")
     if not given.no_instructions:
         full, more = (counted(engines, count, *row[1:]) for count in (LARGE, LARGE + 1))
         print(f"    instructions for each outcome   {pair(title, net(more, full, LARGE), '8.0f')}", flush=True)
@@ -189,7 +207,7 @@ def main():
     timed = Timed(engines)
     for _ in range(given.rounds):
         for kind in KINDS:
-            for size in [0, *SIZES]:
+            for size in [0, *sizes_of(kind)]:
                 timed.take(given.count, size, kind)
         for kind, *kept in KEYED:
             for size in (0, 84):

@@ -484,8 +484,22 @@ pub struct Assembler {
     /// The header of the frame, once it was judged.
     header: Option<Header>,
     partials: Vec<Partial>,
-    complete: Option<Header>,
+    /// Whether the frame is a message that was lent.
+    is_complete: bool,
     failed: bool,
+}
+
+/// A message that is complete: its header, and whether it lies at the end of what was taken of the piece, or in the frame.
+struct Complete {
+    header: Header,
+    is_in_piece: bool,
+}
+
+impl Complete {
+    #[inline(always)]
+    fn frame<'a>(&self, taken: &'a [u8], frame: &'a [u8]) -> &'a [u8] {
+        if self.is_in_piece { &taken[taken.len() - HEADER - self.header.size as usize..] } else { frame }
+    }
 }
 
 impl Assembler {
@@ -496,46 +510,42 @@ impl Assembler {
             wanted: HEADER,
             header: None,
             partials: Vec::new(),
-            complete: None,
+            is_complete: false,
             failed: false,
         }
     }
 
     /// Takes octets up to the end of the next message that completes, or all: how many, and the message, which is read
     /// once.
-    pub fn feed_once(&mut self, piece: &[u8]) -> Result<(usize, Option<Message<'_>>), Fault> {
+    pub fn feed_once<'a>(&'a mut self, piece: &'a [u8]) -> Result<(usize, Option<Message<'a>>), Fault> {
         match self.advance(piece) {
-            Ok((taken, None)) => {
-                self.complete = None;
-                Ok((taken, None))
-            }
-            Ok((taken, Some(header))) => {
-                self.complete = Some(header);
-                match read_message(&header, &self.frame) {
-                    Ok(message) => Ok((taken, Some(message))),
-                    Err(fault) => {
-                        self.failed = true;
-                        Err(fault.into())
-                    }
+            Ok((taken, None)) => Ok((taken, None)),
+            Ok((taken, Some(complete))) => match read_message(&complete.header, complete.frame(&piece[..taken], &self.frame)) {
+                Ok(message) => Ok((taken, Some(message))),
+                Err(fault) => {
+                    self.failed = true;
+                    Err(fault.into())
                 }
-            }
+            },
             Err(fault) => Err(self.fail(fault)),
         }
     }
 
     /// The same, with the message's header.
     #[inline(always)]
-    fn take(&mut self, piece: &[u8]) -> Result<(usize, Option<(Header, Message<'_>)>), Fault> {
+    fn take<'a>(&'a mut self, piece: &'a [u8]) -> Result<(usize, Option<(Header, Message<'a>)>), Fault> {
         let (taken, complete) = self.advance(piece)?;
-        self.complete = complete;
         match complete {
-            Some(header) => Ok((taken, Some((header, read_message(&header, &self.frame)?)))),
+            Some(complete) => {
+                let frame = complete.frame(&piece[..taken], &self.frame);
+                Ok((taken, Some((complete.header, read_message(&complete.header, frame)?))))
+            }
             None => Ok((taken, None)),
         }
     }
 
     pub fn pending(&self) -> usize {
-        if self.complete.is_some() { 0 } else { self.frame.len() }
+        if self.is_complete { 0 } else { self.frame.len() }
     }
 
     pub fn partial(&self) -> usize {
@@ -548,19 +558,39 @@ impl Assembler {
 
     fn fail(&mut self, fault: Fault) -> Fault {
         self.failed = true;
-        self.complete = None;
+        self.is_complete = false;
         self.frame.clear();
         self.partials.clear();
         fault
     }
 
-    fn advance(&mut self, piece: &[u8]) -> Result<(usize, Option<Header>), Fault> {
-        if self.complete.is_some() {
-            self.frame.clear();
-        }
+    /// A message that is whole in the piece, where nothing else has begun, is not copied.
+    #[inline(always)]
+    fn advance(&mut self, piece: &[u8]) -> Result<(usize, Option<Complete>), Fault> {
         if self.failed {
             return Err(Fault::Failed);
         }
+        if self.is_complete {
+            self.frame.clear();
+            self.is_complete = false;
+        }
+        if self.frame.is_empty() && self.partials.is_empty() {
+            if let Some(head) = piece.first_chunk() {
+                let header = self.judge(head)?;
+                let size = HEADER + header.size as usize;
+                if size <= piece.len() && !header.more && header.kind != Kind::Fragment {
+                    return Ok((size, Some(Complete { header, is_in_piece: true })));
+                }
+            }
+        }
+        let (taken, complete) = self.gather(piece)?;
+        self.is_complete = complete.is_some();
+        Ok((taken, complete.map(|header| Complete { header, is_in_piece: false })))
+    }
+
+    /// Takes octets up to the end of the next message that completes in the frame, or all.
+    #[inline(never)]
+    fn gather(&mut self, piece: &[u8]) -> Result<(usize, Option<Header>), Fault> {
         let mut left = piece;
         while !left.is_empty() {
             if self.frame.is_empty() {
@@ -729,6 +759,23 @@ pub enum Val {
     LongLong(i64),
 }
 
+/// Values, of which one needs no heap.
+pub enum Values {
+    None,
+    One(Val),
+    Many(Vec<Val>),
+}
+
+impl Values {
+    fn as_slice(&self) -> &[Val] {
+        match self {
+            Values::None => &[],
+            Values::One(value) => std::slice::from_ref(value),
+            Values::Many(values) => values,
+        }
+    }
+}
+
 pub struct Signature {
     pub arguments: Vec<Ty>,
 }
@@ -740,7 +787,7 @@ pub enum Lookup<'s> {
 }
 
 pub enum Outcome {
-    Returned(Vec<Val>),
+    Returned(Values),
     Raised(&'static [u8]),
     System(&'static [u8]),
 }
@@ -764,11 +811,8 @@ impl Counter {
     }
 }
 
-fn one(value: Val) -> Result<Outcome, TryReserveError> {
-    let mut values = Vec::new();
-    values.try_reserve_exact(1)?;
-    values.push(value);
-    Ok(Outcome::Returned(values))
+fn one(value: Val) -> Outcome {
+    Outcome::Returned(Values::One(value))
 }
 
 impl Servant for Counter {
@@ -789,14 +833,13 @@ impl Servant for Counter {
 
     fn perform(&mut self, _: &[u8], _: &[u8], arguments: &[Val]) -> Result<Outcome, TryReserveError> {
         let Some(Val::Long(n)) = arguments.first() else {
-            return one(Val::LongLong(self.total));
+            return Ok(one(Val::LongLong(self.total)));
         };
         let Some(total) = self.total.checked_add(i64::from(*n)) else {
             return Ok(Outcome::Raised(b"IDL:Counter/Overflow:1.0"));
         };
-        let outcome = one(Val::LongLong(total))?;
         self.total = total;
-        Ok(outcome)
+        Ok(one(Val::LongLong(total)))
     }
 }
 
@@ -1015,12 +1058,7 @@ fn field(contexts: Contexts) -> Field {
 
 fn put_header(version: Version, kind: u8, start: usize, out: &mut [u8]) {
     let size = (out.len() - start - HEADER) as u32;
-    let minor = match version {
-        Version::V10 => 0,
-        Version::V11 => 1,
-        Version::V12 => 2,
-    };
-    out[start..start + 8].copy_from_slice(&[b'G', b'I', b'O', b'P', 1, minor, 0, kind]);
+    out[start..start + 8].copy_from_slice(&[b'G', b'I', b'O', b'P', 1, version as u8, 0, kind]);
     out[start + 8..start + HEADER].copy_from_slice(&size.to_be_bytes());
 }
 
@@ -1035,8 +1073,38 @@ fn put_string(text: &[u8], start: usize, out: &mut Vec<u8>) -> Result<(), TryRes
     Ok(())
 }
 
-/// Appends a Reply, or nothing by the wish.
+/// Appends a Reply, or nothing by the wish. One of a number is put at once.
+#[inline(always)]
 fn put_reply(version: Version, id: u32, wish: Wish, outcome: &Outcome, out: &mut Vec<u8>) -> Result<(), TryReserveError> {
+    let Outcome::Returned(Values::One(value)) = outcome else {
+        return put_any(version, id, wish, outcome, out);
+    };
+    if wish != Wish::Full {
+        return put_any(version, id, wish, outcome, out);
+    }
+    let mut reply = [0; 32];
+    let (head, body) = reply.split_at_mut(24);
+    head[..8].copy_from_slice(&[b'G', b'I', b'O', b'P', 1, version as u8, 0, 1]);
+    let at = if version == Version::V12 { HEADER } else { HEADER + 4 };
+    head[at..at + 4].copy_from_slice(&id.to_be_bytes());
+    let size = match value {
+        Val::Long(x) => {
+            body[..4].copy_from_slice(&x.to_be_bytes());
+            28
+        }
+        Val::LongLong(x) => {
+            body.copy_from_slice(&x.to_be_bytes());
+            32
+        }
+    };
+    reply[11] = size as u8 - HEADER as u8;
+    out.try_reserve(size)?;
+    out.extend_from_slice(&reply[..size]);
+    Ok(())
+}
+
+#[inline(never)]
+fn put_any(version: Version, id: u32, wish: Wish, outcome: &Outcome, out: &mut Vec<u8>) -> Result<(), TryReserveError> {
     if wish == Wish::None {
         return Ok(());
     }
@@ -1055,7 +1123,7 @@ fn put_reply(version: Version, id: u32, wish: Wish, outcome: &Outcome, out: &mut
     match outcome {
         Outcome::Returned(_) if wish == Wish::Empty => {}
         Outcome::Returned(values) => {
-            for value in values {
+            for value in values.as_slice() {
                 out.try_reserve(16)?;
                 let n = match value {
                     Val::Long(_) => 4,
@@ -1089,31 +1157,45 @@ const NO_RESOURCES: &[u8] = b"IDL:omg.org/CORBA/NO_RESOURCES:1.0";
 const BAD_OPERATION: &[u8] = b"IDL:omg.org/CORBA/BAD_OPERATION:1.0";
 const OBJECT_NOT_EXIST: &[u8] = b"IDL:omg.org/CORBA/OBJECT_NOT_EXIST:1.0";
 
+/// One value of a body that begins at a place of its message.
+#[inline(always)]
+fn value(ty: Ty, start: usize, r: &mut Reader) -> Result<Val, BodyFault> {
+    let n = match ty {
+        Ty::Long => 4,
+        Ty::LongLong => 8,
+    };
+    r.at = ((start + r.at + (n - 1)) & !(n - 1)) - start;
+    let octets = r.take(n)?;
+    Ok(match (ty, r.order) {
+        (Ty::Long, Order::Big) => Val::Long(i32::from_be_bytes(octets.try_into().unwrap())),
+        (Ty::Long, Order::Little) => Val::Long(i32::from_le_bytes(octets.try_into().unwrap())),
+        (Ty::LongLong, Order::Big) => Val::LongLong(i64::from_be_bytes(octets.try_into().unwrap())),
+        (Ty::LongLong, Order::Little) => Val::LongLong(i64::from_le_bytes(octets.try_into().unwrap())),
+    })
+}
+
 /// The arguments of a request by their types.
-fn arguments(types: &[Ty], order: Order, body: Body) -> Result<Result<Vec<Val>, BodyFault>, TryReserveError> {
+#[inline(always)]
+fn arguments(types: &[Ty], order: Order, body: Body) -> Result<Result<Values, BodyFault>, TryReserveError> {
+    let mut r = Reader { octets: body.octets, at: 0, order };
+    match types {
+        [] => Ok(Ok(Values::None)),
+        [ty] => Ok(value(*ty, body.at, &mut r).map(Values::One)),
+        types => many_arguments(types, body.at, r),
+    }
+}
+
+#[inline(never)]
+fn many_arguments(types: &[Ty], start: usize, mut r: Reader) -> Result<Result<Values, BodyFault>, TryReserveError> {
     let mut values = Vec::new();
     values.try_reserve_exact(types.len())?;
-    let mut r = Reader { octets: body.octets, at: 0, order };
     for ty in types {
-        let n = match ty {
-            Ty::Long => 4,
-            Ty::LongLong => 8,
-        };
-        while (body.at + r.at) % n != 0 {
-            r.at += 1;
-        }
-        let octets = match r.take(n) {
-            Ok(octets) => octets,
+        match value(*ty, start, &mut r) {
+            Ok(value) => values.push(value),
             Err(fault) => return Ok(Err(fault)),
-        };
-        values.push(match (ty, order) {
-            (Ty::Long, Order::Big) => Val::Long(i32::from_be_bytes(octets.try_into().unwrap())),
-            (Ty::Long, Order::Little) => Val::Long(i32::from_le_bytes(octets.try_into().unwrap())),
-            (Ty::LongLong, Order::Big) => Val::LongLong(i64::from_be_bytes(octets.try_into().unwrap())),
-            (Ty::LongLong, Order::Little) => Val::LongLong(i64::from_le_bytes(octets.try_into().unwrap())),
-        });
+        }
     }
-    Ok(Ok(values))
+    Ok(Ok(Values::Many(values)))
 }
 
 /// A servant with what is kept for its clients.
@@ -1126,7 +1208,7 @@ struct Desk<S> {
 /// What comes of a request that is not in the log: it is refused, or what is to be performed.
 enum Asked<'a> {
     Refused(&'static [u8]),
-    Call(&'a [u8], Vec<Val>),
+    Call(&'a [u8], Values),
 }
 
 impl<S: Servant> Desk<S> {
@@ -1153,7 +1235,7 @@ impl<S: Servant> Desk<S> {
             Field::Absent => {
                 let outcome = match self.asked(&request, order)? {
                     Asked::Refused(name) => Outcome::System(name),
-                    Asked::Call(key, values) => self.servant.perform(key, request.operation, &values)?,
+                    Asked::Call(key, values) => self.servant.perform(key, request.operation, values.as_slice())?,
                 };
                 put_reply(version, id, wish, &outcome, out)
             }
@@ -1175,7 +1257,7 @@ impl<S: Servant> Desk<S> {
                     return put_reply(version, id, wish, &Outcome::System(NO_RESOURCES), out);
                 }
                 self.log.reserve()?;
-                let outcome = self.servant.perform(key, request.operation, &values)?;
+                let outcome = self.servant.perform(key, request.operation, values.as_slice())?;
                 let put = put_reply(version, id, wish, &outcome, out);
                 self.log.keep(expiration, Entry { client_id: client_id.into(), retention_id, hash, outcome });
                 put
@@ -1247,12 +1329,12 @@ impl<S: Servant> Server<S> {
                 Message::Request(request) => self.desk.handle(header.version, header.order, request, out)?,
                 Message::LocateRequest(id, target) => {
                     let is_here = matches!(target, Target::Key(key) if self.desk.servant.has_object(key));
-                    let start = out.len();
-                    out.try_reserve(20)?;
-                    out.extend_from_slice(&[0; HEADER]);
-                    out.extend_from_slice(&id.to_be_bytes());
-                    out.extend_from_slice(&u32::from(is_here).to_be_bytes());
-                    put_header(header.version, 4, start, out);
+                    let mut reply = *b"GIOP\x01\x00\x00\x04\x00\x00\x00\x08\0\0\0\0\0\0\0\0";
+                    reply[5] = header.version as u8;
+                    reply[HEADER..16].copy_from_slice(&id.to_be_bytes());
+                    reply[19] = u8::from(is_here);
+                    out.try_reserve(reply.len())?;
+                    out.extend_from_slice(&reply);
                 }
                 Message::Close | Message::Error => {
                     link.is_closed = true;
@@ -1422,7 +1504,7 @@ fn keep_each(count: u32, entries: u64, share: usize, expiry: &str, is_one_client
         if log.find(hash, &client_id, index as i32).is_some() {
             found += 1;
         } else if log.has_room(&client_id) && log.reserve().is_ok() {
-            let outcome = Outcome::Returned(vec![Val::LongLong(i64::from(index))]);
+            let outcome = one(Val::LongLong(i64::from(index)));
             log.keep(until, Entry { client_id: client_id.into(), retention_id: index as i32, hash, outcome });
         }
         sum = sum.wrapping_mul(31).wrapping_add(log.len() as u64);

@@ -23,6 +23,7 @@ import time
 import unittest
 import unittest.mock
 from collections.abc import Callable, Iterator
+from concurrent.futures import ThreadPoolExecutor
 
 from scripts import header, library
 from tests import base, giop, programs
@@ -659,6 +660,22 @@ def bank_serves_a_hundred(bank: str) -> None:
             peers[index].tell(balance(1000, f"account {index}"))
         for index in range(50):
             peers[index].wants(returned(1000, 1 + index))
+
+
+def bank_deposits_by_many_act_once(bank: str) -> None:
+    """Twelve clients at once, each of which sends each of its deposits on three connections."""
+    with Serving(bank, "127.0.0.1", "0") as serving, ThreadPoolExecutor(12) as pool:
+        def deposits(index: int) -> None:
+            name = f"client {index}"
+            with contextlib.ExitStack() as stack:
+                peers = [stack.enter_context(Peer(serving.port)) for _ in range(3)]
+                for number in range(1, 41):
+                    for peer in peers:
+                        peer.tell(deposit(number, name, number, number=number, client=name.encode()))
+                    for peer in peers:
+                        peer.wants(returned(number, number * (number + 1) // 2), name)
+
+        list(pool.map(deposits, range(12)))
 
 
 def bank_serves_beside_one_that_reads_nothing(bank: str) -> None:
@@ -1357,6 +1374,56 @@ class ThreadsOfSlowBankCpp(Threads, unittest.TestCase):
     """Those of the bank in C++ whose deposits take their time."""
 
     NAME, SOURCES, FLAGS = "slow_bank_cpp_threads", ["slow_bank.cpp"], ["-pthread"]
+
+
+@of_functions([*FULL_BANKS, bank_deposits_by_many_act_once])
+class BankByThreads(Example, unittest.TestCase):
+    """The bank in C, by threads around one server."""
+
+    NAME, SOURCES, FLAGS = "bank_by_threads", ["bank.c", "loop_threads.c"], ["-DLOOP_THREADS=2", "-pthread"]
+
+
+@of_functions([bank_deposits_by_many_act_once, bank_serves_a_hundred, bank_ends_streams, bank_says_goodbye])
+class ThreadsOfBankByThreads(Threads, unittest.TestCase):
+    """Its threads."""
+
+    NAME, SOURCES, FLAGS = "bank_by_threads_threads", ["bank.c", "loop_threads.c"], ["-pthread"]
+
+
+@of_functions(SLOW_BANKS)
+class ThreadsOfSlowBankByThreads(Threads, unittest.TestCase):
+    """Those of the bank in C whose deposits take their time, by threads around one server."""
+
+    NAME, SOURCES, FLAGS = "slow_bank_by_threads_threads", ["slow_bank.c", "loop_threads.c"], ["-pthread"]
+
+
+@of_functions([*WATCHED_BANKS, bank_deposits_by_many_act_once])
+class WatchedBankByThreads(Watched, unittest.TestCase):
+    """The bank in C, by threads around one server."""
+
+    NAME, SOURCES = "watched_bank_by_threads", ["bank.c", "loop_threads.c"]
+
+
+@of_functions([slow_bank_gives_up])
+class ShortBankByThreads(Plain, unittest.TestCase):
+    """The bank in C whose deposits take their time, by threads, with a second for what is parked at SIGTERM."""
+
+    NAME, SOURCES, FLAGS = "short_bank_by_threads", ["slow_bank.c", "loop_threads.c"], ["-DLOOP_DRAIN=1", "-pthread"]
+
+
+@of_functions(FAIR_BANKS)
+class FairBankByThreads(Plain, unittest.TestCase):
+    """The bank in C, by a thread of its own beside a peer that asks without an end."""
+
+    NAME, SOURCES = "fair_bank_by_threads", ["bank.c", "loop_threads.c"]
+    FLAGS = ["-DLOOP_THREADS=1", "-pthread"]
+
+
+@of_functions([*IDLE_BANKS, bank_deposits_by_many_act_once])
+class IdleBankByThreads(Plain, unittest.TestCase):
+    """The bank in C, by threads, with an idle time of two seconds."""
+
+    NAME, SOURCES, FLAGS = "idle_bank_by_threads", ["bank.c", "loop_threads.c"], ["-DLOOP_IDLE=2", "-pthread"]
 
 
 @of_functions([servants_answer_in_each_way])
