@@ -48,7 +48,8 @@ impl Signature {
     {
         match read_list(alloc, &self.forms, order, at, octets) {
             Ok((values, count)) if count == octets.len() => Ok(Some(values)),
-            Ok(_) | Err(CdrError::Bad(_)) => Ok(None),
+            Ok(_) => Ok(None),
+            Err(CdrError::Bad(_)) => Ok(None),
             Err(CdrError::Memory) => Err(AllocError),
         }
     }
