@@ -9,6 +9,7 @@ mod caught;
 mod caught_forwards;
 mod caught_lines;
 mod counts;
+mod end_lines;
 mod forwards;
 mod json;
 mod json_forwards;

@@ -7,7 +7,7 @@ use crate::looks::Looks;
 use crate::objects::Objects;
 use crate::shown::Shown;
 use crate::summary::Summary;
-use crate::{caught_lines, json, lines, reports, summaries};
+use crate::{caught_lines, end_lines, json, lines, reports, summaries};
 use giop_link::LinkFault;
 use giop_tap::Sender;
 use std::alloc::{AllocError, Global};
@@ -208,7 +208,7 @@ impl Printer {
     pub fn counts(&self, counts: &Counts) -> Result<String, AllocError> {
         let mut text = String::new(self.alloc);
         match self.format {
-            Format::Lines => lines::put_counts(counts, &mut text)?,
+            Format::Lines => end_lines::put_counts(counts, &mut text)?,
             Format::Json => reports::put_counts(self.alloc, counts, &mut text)?,
         }
         Ok(text)

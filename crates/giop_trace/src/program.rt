@@ -154,7 +154,8 @@ fn teller_of(alloc: Global, options: &Options, types: Table) -> Result<Teller, A
 }
 
 /// Traces the connections in an input under the default limits, as it comes, and prints a line for each message, what
-/// the types tell of its body, and at the end what was counted. Returns whether each direction ends after a message, with nothing left over.
+/// the types tell of its body, and at the end what was counted. Returns whether each direction ends after a message,
+/// with nothing left over.
 pub fn trace<R: Read, W: Write>(
     alloc: Global,
     options: &Options,
