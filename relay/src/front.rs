@@ -494,11 +494,12 @@ impl<R: Role> Talk<R> {
 
     /// Hears the messages that octets complete.
     async fn hears(&mut self, mut octets: &[u8]) -> Result<(), Why> {
+        let whole = if self.frames.is_whole() { octets } else { &[] };
         while !octets.is_empty() {
             let fed = self.assembler.feed(octets);
             let fed = fed.map_err(|_| Why::Fault(self.assembler.fault()))?;
             octets = &octets[fed..];
-            let heard = match self.assembler.message() {
+            let heard = match self.assembler.message_in(whole) {
                 Ok(Some(mut message)) => {
                     self.heard = Instant::now();
                     let is_long = self.frames.is_cut();

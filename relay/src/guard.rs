@@ -17,6 +17,7 @@ use lemonrudder::{Completed, Moment, Status};
 use std::collections::HashMap;
 use std::net::SocketAddr;
 use std::path::PathBuf;
+use std::sync::atomic::{AtomicUsize, Ordering};
 use std::sync::{Arc, Mutex};
 use std::time::Duration;
 use tokio::select;
@@ -131,37 +132,41 @@ struct Shares {
 /// way.
 #[derive(Default)]
 struct Counts {
-    counts: HashMap<Vec<u8>, usize>,
+    counts: HashMap<Vec<u8>, Arc<AtomicUsize>>,
     most: usize,
 }
 
 /// A request's place in the share of its client.
-struct Held<'g>(&'g Shares, &'g [u8]);
+struct Held(Arc<AtomicUsize>);
 
 impl Shares {
     /// A place in the share of a client, if there is one left.
-    fn hold<'g>(&'g self, client: &'g [u8]) -> Option<Held<'g>> {
+    fn hold(&self, client: &[u8]) -> Option<Held> {
         let mut clients = locked(&self.clients);
         let Counts { counts, most } = &mut *clients;
-        if let Some(count) = counts.get_mut(client) {
-            let is_left = *count < self.share;
-            *count += usize::from(is_left);
-            return is_left.then(|| Held(self, client));
+        if let Some(count) = counts.get(client) {
+            let is_left = count.load(Ordering::Relaxed) < self.share;
+            return is_left.then(|| Held::of(count));
         }
         if counts.len() >= *most {
-            counts.retain(|_, count| *count > 0);
+            counts.retain(|_, count| count.load(Ordering::Relaxed) > 0);
             *most = (2 * counts.len()).max(CLIENTS);
         }
-        counts.insert(client.to_vec(), 1);
-        Some(Held(self, client))
+        Some(Held::of(counts.entry(client.to_vec()).or_default()))
     }
 }
 
-impl Drop for Held<'_> {
+impl Held {
+    /// One more of a client, whose count is locked against others.
+    fn of(count: &Arc<AtomicUsize>) -> Held {
+        count.fetch_add(1, Ordering::Relaxed);
+        Held(count.clone())
+    }
+}
+
+impl Drop for Held {
     fn drop(&mut self) {
-        if let Some(count) = locked(&self.0.clients).counts.get_mut(self.1) {
-            *count -= 1;
-        }
+        self.0.fetch_sub(1, Ordering::Relaxed);
     }
 }
 

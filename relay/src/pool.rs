@@ -480,22 +480,24 @@ fn named(error: &io::Error) -> &'static str {
 fn takes(line: &Line, frames: &mut Frames, assembler: &mut Assembler, mut octets: &[u8]) -> End {
     while !octets.is_empty() {
         let taken = frames.take(&mut octets);
-        hears(line, assembler, taken.octets(), frames.is_cut())?;
+        hears(line, assembler, taken.octets(), frames)?;
     }
     Ok(())
 }
 
 /// Hears the messages that octets complete.
-fn hears(line: &Line, assembler: &mut Assembler, mut octets: &[u8], is_long: bool) -> End {
+fn hears(line: &Line, assembler: &mut Assembler, mut octets: &[u8], frames: &Frames) -> End {
+    let whole = if frames.is_whole() { octets } else { &[] };
     while !octets.is_empty() {
         let fed = assembler.feed(octets);
         let fed = fed.map_err(|_| (reasons::of_fault(assembler.fault()), Loss::Lost))?;
         octets = &octets[fed..];
-        let message = assembler.message().map_err(|_| ("memory is short", Loss::Lost))?;
+        let message = assembler.message_in(whole).map_err(|_| ("memory is short", Loss::Lost))?;
         let Some(mut message) = message else { continue };
         match message.message_type() {
             MessageType::Reply => {
-                let reply = if is_long { Reply::long() } else { forward::reply_of(&mut message) };
+                let reply =
+                    if frames.is_cut() { Reply::long() } else { forward::reply_of(&mut message) };
                 line.answers(message.request_id(), reply);
             }
             MessageType::CloseConnection => return Err(("it said CloseConnection", Loss::Closed)),

@@ -155,10 +155,12 @@ impl Common {
         Terms { tls: None, most, idle, unconfirmed, own: front::places_of(listeners) }
     }
 
-    /// How many threads serve, each by connections of its own to a server or a guard.
+    /// How many threads serve, each by connections of its own to a server or a guard: one for two
+    /// processors, since clients or servers are on the others, and few wake each other less.
     #[must_use]
     pub fn threads(&self) -> usize {
-        thread::available_parallelism().map_or(1, NonZero::get).min(self.connections)
+        let processors = thread::available_parallelism().map_or(1, NonZero::get);
+        processors.div_ceil(2).min(self.connections)
     }
 
     /// What clients may take, who may have so many requests under way.
