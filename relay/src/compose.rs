@@ -4,8 +4,7 @@
 //! modulo 8, at which it came. In 1.2 that is a multiple of 8. In 1.0 and 1.1 it stands where the
 //! header ends, which is moved by a service context that says nothing.
 
-use lemonrudder::cdr::Writer;
-use lemonrudder::{Error, Order, Version, Wish};
+use lemonrudder::{Order, Version, Wish};
 
 /// How many octets a message may have.
 pub const LONGEST: usize = 16 << 20;
@@ -47,23 +46,25 @@ pub fn request(head: &Head, id: u32, body: &Body) -> Option<Vec<u8>> {
     moved(body, head.version, |padding| {
         let mut out = begun(head.version, head.order, REQUEST, size);
         if head.version != Version::V12 {
-            put_contexts(&mut out, &head.contexts, padding)?;
+            out.contexts(&head.contexts, padding)?;
         }
-        out.ulong(id)?.octet(flags_of(head.version, head.wish))?;
-        for _ in 0..if head.version == Version::V10 { 0 } else { 3 } {
-            out.octet(0)?;
+        out.ulong(id);
+        out.octets.push(flags_of(head.version, head.wish));
+        if head.version != Version::V10 {
+            out.octets.extend_from_slice(&[0; 3]);
         }
         if head.version == Version::V12 {
-            out.short(0)?; // (the target is an object key)
+            out.octets.extend_from_slice(&[0; 2]); // (the target is an object key)
         }
-        out.octets(&head.key)?.string(&head.operation)?;
+        out.sequence(&head.key)?;
+        out.string(&head.operation)?;
         if head.version == Version::V12 {
-            put_contexts(&mut out, &head.contexts, None)?;
+            out.contexts(&head.contexts, None)?;
         } else {
             // (a principal, which nobody reads, moves the body by what is no multiple of 4)
-            out.octets(vec![0; usize::try_from(body.place % 4).unwrap_or(0)])?;
+            out.sequence(&[0; 4][..usize::try_from(body.place % 4).unwrap_or(0)])?;
         }
-        Ok(out.into_octets())
+        Some(out.octets)
     })
 }
 
@@ -79,13 +80,14 @@ pub fn reply(
     moved(body, version, |padding| {
         let mut out = begun(version, order, REPLY, body.octets.len());
         if version != Version::V12 {
-            put_contexts(&mut out, contexts, padding)?;
+            out.contexts(contexts, padding)?;
         }
-        out.ulong(id)?.ulong(status)?;
+        out.ulong(id);
+        out.ulong(status);
         if version == Version::V12 {
-            put_contexts(&mut out, contexts, None)?;
+            out.contexts(contexts, None)?;
         }
-        Ok(out.into_octets())
+        Some(out.octets)
     })
 }
 
@@ -94,38 +96,88 @@ pub fn reply(
 fn moved(
     body: &Body,
     version: Version,
-    write: impl Fn(Option<usize>) -> Result<Vec<u8>, Error>,
+    write: impl Fn(Option<usize>) -> Option<Vec<u8>>,
 ) -> Option<Vec<u8>> {
     let is_at =
         |header: &Vec<u8>| body.octets.is_empty() || header.len() as u64 % 8 == body.place % 8;
-    let mut octets = write(None).ok()?;
+    let mut octets = write(None)?;
     if version == Version::V12 && !body.octets.is_empty() {
         octets.resize(octets.len().next_multiple_of(8), 0);
     } else if !is_at(&octets) {
-        octets = write(Some(4)).ok()?;
+        octets = write(Some(4))?;
     }
     if !is_at(&octets) || octets.len() + body.octets.len() > LONGEST {
         return None;
     }
     octets.extend_from_slice(&body.octets);
-    let is_little = octets[6] & 1 == 1;
     let size = u32::try_from(octets.len() - HEADER).ok()?;
-    octets[8..HEADER].copy_from_slice(&if is_little {
-        size.to_le_bytes()
-    } else {
-        size.to_be_bytes()
-    });
+    let order = if octets[6] & 1 == 1 { Order::Little } else { Order::Big };
+    octets[8..HEADER].copy_from_slice(&in_order(order, size));
     Some(octets)
 }
 
+/// A number in an order.
+fn in_order(order: Order, number: u32) -> [u8; 4] {
+    match order {
+        Order::Big => number.to_be_bytes(),
+        Order::Little => number.to_le_bytes(),
+    }
+}
+
+/// A message that is written, each value aligned from its beginning.
+struct Out {
+    order: Order,
+    octets: Vec<u8>,
+}
+
 /// A message that has its header, but for its size, and room for so many octets and some numbers.
-fn begun(version: Version, order: Order, kind: u8, size: usize) -> Writer {
+fn begun(version: Version, order: Order, kind: u8, size: usize) -> Out {
     let minor = [0, 1, 2][version as usize];
     let flags = u8::from(order == Order::Little);
     let mut octets = Vec::with_capacity(size.min(LONGEST) + ROOM);
-    octets.extend_from_slice(b"GIOP\x01");
-    octets.extend_from_slice(&[minor, flags, kind, 0, 0, 0, 0]);
-    Writer::of(order, octets)
+    octets.extend_from_slice(&[b'G', b'I', b'O', b'P', 1, minor, flags, kind, 0, 0, 0, 0]);
+    Out { order, octets }
+}
+
+impl Out {
+    /// An unsigned long.
+    fn ulong(&mut self, number: u32) {
+        self.octets.resize(self.octets.len().next_multiple_of(4), 0);
+        self.octets.extend_from_slice(&in_order(self.order, number));
+    }
+
+    /// A sequence of octets, unless it is too long.
+    fn sequence(&mut self, octets: &[u8]) -> Option<()> {
+        self.ulong(u32::try_from(octets.len()).ok()?);
+        self.octets.extend_from_slice(octets);
+        Some(())
+    }
+
+    /// A string, unless it is too long, or has a NUL.
+    fn string(&mut self, text: &[u8]) -> Option<()> {
+        if text.contains(&0) {
+            return None;
+        }
+        self.ulong(u32::try_from(text.len() + 1).ok()?);
+        self.octets.extend_from_slice(text);
+        self.octets.push(0);
+        Some(())
+    }
+
+    /// A list of service contexts, the last of which says nothing where there is padding.
+    fn contexts(&mut self, contexts: &Contexts, padding: Option<usize>) -> Option<()> {
+        let count = contexts.len() + usize::from(padding.is_some());
+        self.ulong(u32::try_from(count).ok()?);
+        for (id, data) in contexts {
+            self.ulong(*id);
+            self.sequence(data)?;
+        }
+        if let Some(size) = padding {
+            self.ulong(PADDING);
+            self.sequence(&vec![0; size])?;
+        }
+        Some(())
+    }
 }
 
 /// The octet that says which reply is wished (9.4.2.1).
@@ -136,23 +188,6 @@ fn flags_of(version: Version, wish: Wish) -> u8 {
         Wish::Full if version == Version::V12 => 3,
         Wish::Full => 1,
     }
-}
-
-/// A list of service contexts, the last of which says nothing where there is padding.
-fn put_contexts(
-    out: &mut Writer,
-    contexts: &Contexts,
-    padding: Option<usize>,
-) -> Result<(), Error> {
-    let count = contexts.len() + usize::from(padding.is_some());
-    out.ulong(u32::try_from(count).map_err(|_| Error::Long)?)?;
-    for (id, data) in contexts {
-        out.ulong(*id)?.octets(data)?;
-    }
-    if let Some(size) = padding {
-        out.ulong(PADDING)?.octets(vec![0; size])?;
-    }
-    Ok(())
 }
 
 #[cfg(test)]

@@ -69,13 +69,10 @@ pub fn request_of(message: &mut Message<'_>) -> Result<Request, Refusal> {
         key: Key { client: said.client_id.to_vec(), number: said.retention_id },
         expiration: said.expiration,
     });
-    let contexts = message.contexts().collect::<Result<Contexts, Error>>();
-    let mut contexts = contexts.map_err(|_| Refusal::Memory)?;
-    let is_keyed = contexts.iter().any(|(id, _)| *id == FT_REQUEST);
-    if is_keyed && ft.as_ref().is_none_or(|ft| ft.key.client.len() > CLIENT) {
+    if ft.as_ref().is_some_and(|ft| ft.key.client.len() > CLIENT) {
         return Err(Refusal::FtRequest);
     }
-    contexts.retain(|(id, _)| ![FT_REQUEST, BI_DIR_IIOP, compose::PADDING].contains(id));
+    let contexts = contexts_of(message, ft.is_some())?;
     let Some(key) = message.key() else { return Err(Refusal::Addressing) };
     let head = Head {
         version: message.version(),
@@ -87,6 +84,20 @@ pub fn request_of(message: &mut Message<'_>) -> Result<Request, Refusal> {
     };
     let body = Body { octets: message.body().to_vec(), place: message.place() };
     Ok(Request { head, body, ft })
+}
+
+/// The service contexts of a request that go on, which has one of FT_REQUEST that is valid, or not.
+fn contexts_of(message: &mut Message<'_>, is_keyed: bool) -> Result<Contexts, Refusal> {
+    let all = message.contexts();
+    if all.len() <= usize::from(is_keyed) {
+        return Ok(Contexts::new());
+    }
+    let mut contexts = all.collect::<Result<Contexts, Error>>().map_err(|_| Refusal::Memory)?;
+    if !is_keyed && contexts.iter().any(|(id, _)| *id == FT_REQUEST) {
+        return Err(Refusal::FtRequest);
+    }
+    contexts.retain(|(id, _)| ![FT_REQUEST, BI_DIR_IIOP, compose::PADDING].contains(id));
+    Ok(contexts)
 }
 
 /// The reply that a message is. Of more service contexts than are looked at none goes on.
@@ -130,11 +141,24 @@ impl Answer {
     /// aligned to more than 4.
     #[must_use]
     pub fn outcome(&self) -> Outcome {
+        let (place, body) = (self.place(), self.body.octets.clone());
+        Outcome { status: self.status, order: self.order, place, body }
+    }
+
+    /// The place of the body of that outcome.
+    fn place(&self) -> u8 {
         let Body { octets, place } = &self.body;
         let is_free = octets.len() <= 4 || is(self.status, Status::SystemException);
         let place = if is_free && place % 4 == 0 { 0 } else { place % 8 };
-        let place = u8::try_from(place).unwrap_or(0);
-        Outcome { status: self.status, order: self.order, place, body: octets.clone() }
+        u8::try_from(place).unwrap_or(0)
+    }
+
+    /// Whether an outcome is its own.
+    #[must_use]
+    pub fn is_kept_as(&self, outcome: &Outcome) -> bool {
+        let Outcome { status, order, place, body } = outcome;
+        let is_same = *body == self.body.octets && *place == self.place();
+        is_same && (*status, *order) == (self.status, self.order)
     }
 
     /// The Reply to the request of an id. Where it would be too long, that says so.
@@ -175,7 +199,13 @@ impl Guarded {
         if !is_forward {
             return Ok(Answer { status, order, contexts, body });
         }
-        let (text, places) = reference_in(order, &body)?;
+        let body = Box::pin(self.led(order, &body, found)).await?;
+        Ok(Answer { status, order, contexts, body })
+    }
+
+    /// The body of a forward, made to lead to this relay, which was found at an address.
+    async fn led(&self, order: Order, body: &Body, found: SocketAddr) -> Result<Body, String> {
+        let (text, places) = reference_in(order, body)?;
         let here = (found.ip().to_string(), found.port());
         let mut guarded =
             [&self.published[..], &self.listens, std::slice::from_ref(&here)].concat();
@@ -187,8 +217,7 @@ impl Guarded {
             }
         }
         let (host, port) = self.published.first().unwrap_or(&here);
-        let body = led(order, &reference::at(&text, host, *port)?)?;
-        Ok(Answer { status, order, contexts, body })
+        led(order, &reference::at(&text, host, *port)?)
     }
 }
 

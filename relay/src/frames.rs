@@ -42,6 +42,8 @@ pub struct Frames {
     cut: HashSet<u32>,
     /// Whether the message that ends in this frame was cut there.
     is_cut: bool,
+    /// Whether what was taken is a message, from its first octet to its last.
+    is_whole: bool,
     /// Whether what came is no frame: all that comes is for who judges that.
     is_lost: bool,
 }
@@ -68,6 +70,7 @@ impl Frames {
             partial: HashMap::new(),
             cut: HashSet::new(),
             is_cut: false,
+            is_whole: false,
             is_lost: false,
         }
     }
@@ -78,8 +81,15 @@ impl Frames {
         self.is_cut
     }
 
+    /// Whether what was taken is a message, from its first octet to its last.
+    #[must_use]
+    pub fn is_whole(&self) -> bool {
+        self.is_whole
+    }
+
     /// Takes what comes next of a stream.
     pub fn take<'a>(&mut self, octets: &mut &'a [u8]) -> Taken<'a> {
+        self.is_whole = false;
         if self.is_lost {
             return Taken::Octets(std::mem::take(octets));
         }
@@ -89,12 +99,14 @@ impl Frames {
             self.over -= size;
             return Taken::Nothing;
         }
-        if self.left == 0 && !self.begins(octets) {
+        let is_first = self.left == 0;
+        if is_first && !self.begins(octets) {
             return self.hold(octets);
         }
         let (taken, rest) = octets.split_at(self.left.min(octets.len()));
         *octets = rest;
         self.left -= taken.len();
+        self.is_whole = is_first && self.left == 0;
         Taken::Octets(taken)
     }
 
@@ -283,6 +295,30 @@ mod tests {
 
     const SHORT: [u8; 28] = [7; 28];
     const LONG: [u8; 29] = [9; 29];
+
+    #[test]
+    fn what_is_whole_is_no_fragment() {
+        let (whole, cut) = (message(2, 0, 0, &SHORT), message(2, 2, 0, &SHORT));
+        let (fragment, long) = (message(2, 0, 7, &SHORT), message(2, 0, 0, &LONG));
+        let is_whole = |octets: &[&[u8]]| {
+            let mut frames = Frames::new(LONGEST);
+            let mut last = false;
+            for mut octets in octets.iter().copied() {
+                while !octets.is_empty() {
+                    frames.take(&mut octets);
+                    last = frames.is_whole();
+                }
+            }
+            last
+        };
+        assert!(is_whole(&[&whole]) && is_whole(&[&whole[..9], &whole[9..], &whole]));
+        for octets in [&cut, &fragment, &long] {
+            assert!(!is_whole(&[octets]));
+        }
+        for size in 1..whole.len() {
+            assert!(!is_whole(&[&whole[..size]]) && !is_whole(&[&whole[..size], &whole[size..]]));
+        }
+    }
 
     #[test]
     fn what_is_short_passes() {

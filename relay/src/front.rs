@@ -4,19 +4,22 @@ use crate::compose;
 use crate::forward::{self, Answer, Request, CODE_SETS};
 use crate::frames::Frames;
 use crate::metrics::metrics;
+use crate::performers::{Job, Performers};
 use crate::points::point;
 use crate::reasons::{self, Refusal};
 use crate::settings;
 use crate::store::Key;
+use crate::timer::Timer;
 use crate::tls::Acceptor;
 use crate::wire::{self, locked, shown, Reading, Writing};
+use crate::workers::Workers;
 use lemonrudder::{
     write, Assembler, Fault, Limits, LocateStatus, Message, MessageType, Version, Wish,
 };
 use std::collections::{BTreeMap, HashMap};
 use std::future::Future;
-use std::net::{IpAddr, SocketAddr};
-use std::pin::Pin;
+use std::net::{self, IpAddr, SocketAddr};
+use std::pin::pin;
 use std::sync::{Arc, Mutex};
 use std::time::Duration;
 use tokio::io::{copy, sink, AsyncReadExt, AsyncWriteExt};
@@ -24,7 +27,7 @@ use tokio::net::{TcpListener, TcpStream};
 use tokio::select;
 use tokio::sync::{mpsc, oneshot, watch, OwnedSemaphorePermit, Semaphore};
 use tokio::task::{JoinHandle, JoinSet};
-use tokio::time::{sleep, timeout, timeout_at, Instant};
+use tokio::time::{sleep, timeout, Instant};
 use tracing::{info, warn};
 
 /// What is read and written at once: at first, and where there is so much.
@@ -73,18 +76,50 @@ impl Peer {
 pub struct Asked {
     pub peer: Arc<Peer>,
     /// Its service contexts have the code sets of the connection, if any were said on it.
-    pub request: Request,
-    /// Comes where the client sends a CancelRequest; fails where it can't any more.
-    pub cancelled: oneshot::Receiver<()>,
+    pub request: Box<Request>,
+    /// What tells whether it is cancelled, where it may be: a request without FT_REQUEST.
+    pub cancelled: Option<Cancelled>,
 }
 
-/// What is answered, once it is there; none where no reply is wished.
-pub type Answering = Pin<Box<dyn Future<Output = Option<Answer>> + Send>>;
+/// What tells whether a request is cancelled.
+pub struct Cancelled {
+    said: oneshot::Receiver<()>,
+    id: u32,
+    cancels: Cancels,
+}
+
+impl Cancelled {
+    /// A request of an id among those that may be cancelled.
+    fn of(cancels: &Cancels, id: u32) -> Cancelled {
+        let (cancel, said) = oneshot::channel();
+        locked(cancels).insert(id, cancel);
+        Cancelled { said, id, cancels: cancels.clone() }
+    }
+
+    /// Ends where the client sends a CancelRequest, and else never.
+    pub async fn is_said(&mut self) {
+        if (&mut self.said).await.is_err() {
+            std::future::pending::<()>().await;
+        }
+    }
+}
+
+impl Drop for Cancelled {
+    fn drop(&mut self) {
+        locked(&self.cancels).remove(&self.id);
+    }
+}
 
 /// What becomes of requests. Each is performed in a task of its own, which goes on where its client
 /// is lost.
 pub trait Role: Send + Sync + 'static {
-    fn perform(self: Arc<Self>, asked: Asked) -> Answering;
+    /// What is answered, once it is there; none where no reply is wished. The timer is one that may
+    /// be used for it.
+    fn perform(
+        &self,
+        asked: Asked,
+        timer: &mut Timer,
+    ) -> impl Future<Output = Option<Answer>> + Send;
 }
 
 /// What peers may take.
@@ -95,6 +130,8 @@ pub struct Bounds {
     pub requests: usize,
     /// How long what is under way has at the end.
     pub drain: Duration,
+    /// How many threads serve connections.
+    pub threads: usize,
 }
 
 /// The requests of a connection that may be cancelled, by their ids.
@@ -102,7 +139,7 @@ type Cancels = Arc<Mutex<BTreeMap<u32, oneshot::Sender<()>>>>;
 
 /// What all connections share.
 struct Front<R> {
-    role: Arc<R>,
+    performers: Arc<Performers<R>>,
     bounds: Bounds,
     tls: Option<Acceptor>,
     requests: Arc<Semaphore>,
@@ -161,23 +198,30 @@ pub fn places_of(listeners: &[TcpListener]) -> Vec<SocketAddr> {
 
 /// Serves who connects to the listeners, until a future ends. Then no connection is accepted any
 /// more, what is under way is answered, and CloseConnection is said on each connection.
+///
+/// # Errors
+///
+/// Says why it can't begin.
 pub async fn serve<R: Role>(
     role: Arc<R>,
     listeners: Vec<TcpListener>,
     tls: Option<Acceptor>,
     bounds: Bounds,
     stop: impl Future<Output = ()>,
-) {
+) -> Result<(), String> {
+    let workers = Workers::start(bounds.threads).map_err(|error| format!("threads: {error}"))?;
+    let workers = Arc::new(workers);
     let (stopping, stopped) = watch::channel(false);
     let requests = Arc::new(Semaphore::new(bounds.requests));
     let (all, drain) = (u32::try_from(bounds.requests).unwrap_or(u32::MAX), bounds.drain);
     let peers = Arc::new(Semaphore::new(bounds.limits.peers));
     let (under_way, addresses) = (requests.clone(), Mutex::default());
-    let front = Front { role, bounds, tls, requests: under_way, stop: stopped, addresses };
+    let performers = Performers::new(role, bounds.threads);
+    let front = Front { performers, bounds, tls, requests: under_way, stop: stopped, addresses };
     let front = Arc::new(front);
     let mut accepting = JoinSet::new();
     for listener in listeners {
-        accepting.spawn(accepts(front.clone(), listener, peers.clone()));
+        accepting.spawn(accepts(front.clone(), listener, peers.clone(), workers.clone()));
     }
     wire::notify("READY=1");
     stop.await;
@@ -193,10 +237,16 @@ pub async fn serve<R: Role>(
     if ended.await.is_err() {
         warn!("the time to end in is over, and something is under way");
     }
+    Ok(())
 }
 
 /// Accepts connections of a listener.
-async fn accepts<R: Role>(front: Arc<Front<R>>, listener: TcpListener, peers: Arc<Semaphore>) {
+async fn accepts<R: Role>(
+    front: Arc<Front<R>>,
+    listener: TcpListener,
+    peers: Arc<Semaphore>,
+    workers: Arc<Workers>,
+) {
     static NUMBER: std::sync::atomic::AtomicU64 = std::sync::atomic::AtomicU64::new(1);
     loop {
         let (socket, address) = match listener.accept().await {
@@ -216,13 +266,17 @@ async fn accepts<R: Role>(front: Arc<Front<R>>, listener: TcpListener, peers: Ar
             ended(number, address, &"its address has too many".into());
             continue;
         };
+        let (Ok(socket), Some((tasks, held))) = (socket.into_std(), workers.least()) else {
+            ended(number, address, &Why::Failed.text().into());
+            continue;
+        };
         let front = front.clone();
-        tokio::spawn(async move {
+        tasks.spawn(async move {
             metrics().connections.inc();
             let end = attends(&front, number, socket, address).await;
             metrics().connections.dec();
             ended(number, address, &end);
-            drop((place, of_address));
+            drop((place, of_address, held));
         });
     }
 }
@@ -247,13 +301,14 @@ fn ended(number: u64, address: SocketAddr, End(why, detail): &End) {
 async fn attends<R: Role>(
     front: &Arc<Front<R>>,
     number: u64,
-    socket: TcpStream,
+    socket: net::TcpStream,
     address: SocketAddr,
 ) -> End {
     let limits = &front.bounds.limits;
-    let Ok(found) = socket.local_addr().map(wire::plain) else {
+    let (Ok(found), Ok(socket)) = (socket.local_addr(), TcpStream::from_std(socket)) else {
         return Why::Failed.text().into();
     };
+    let found = wire::plain(found);
     let accepted = wire::accept(socket, front.tls.as_ref(), limits).await;
     let (stream, names) = match accepted {
         Ok(accepted) => accepted,
@@ -291,11 +346,7 @@ async fn writes(mut half: Writing, mut dues: mpsc::Receiver<Vec<u8>>, patience: 
             let Ok(more) = dues.try_recv() else { break };
             octets.extend(more);
         }
-        let written = timeout(patience, async {
-            half.write_all(&octets).await?;
-            half.flush().await
-        });
-        if !matches!(written.await, Ok(Ok(()))) {
+        if !wire::writes(&mut half, &octets, patience).await {
             return;
         }
         point("answered");
@@ -382,26 +433,32 @@ impl<R: Role> Talk<R> {
 
     /// Hears a peer until the connection ends.
     async fn listens(&mut self, half: &mut Reading, writer: &mut JoinHandle<()>) -> Why {
-        let mut stop = self.front.stop.clone();
+        let (mut stop, stops) = (self.front.stop.clone(), self.front.stop.clone());
+        let idle = self.front.bounds.limits.idle;
+        let (mut stopped, mut quiet) = (pin!(stop.changed()), pin!(sleep(idle)));
         let mut room = vec![0; SIZES.0];
         loop {
+            // (it changes once, where all is to stop)
+            let is_stopped = !matches!(stops.has_changed(), Ok(false));
+            let reading = half.read(&mut room);
             let read = select! {
-                _ = stop.wait_for_true() => match timeout(ARRIVED, half.read(&mut room)).await {
-                    Err(_) => return Why::Stop,
-                    read => read,
-                },
+                biased;
                 _ = &mut *writer => return Why::Unwritten,
-                read = timeout_at(self.heard + self.front.bounds.limits.idle, half.read(&mut room)) => read,
+                read = within(is_stopped.then_some(ARRIVED), reading) => read,
+                _ = &mut stopped, if !is_stopped => continue,
+                () = &mut quiet => match self.rests(idle) {
+                    None => return Why::Idle,
+                    Some(until) => {
+                        quiet.as_mut().reset(until);
+                        continue;
+                    }
+                },
             };
             let size = match read {
-                Err(_) if self.is_quiet() => return Why::Idle,
-                Err(_) => {
-                    self.heard = Instant::now();
-                    continue;
-                }
-                Ok(Ok(0)) => return Why::Closed,
-                Ok(Ok(size)) => size,
-                Ok(Err(_)) => return Why::Failed,
+                None => return Why::Stop,
+                Some(Ok(0)) => return Why::Closed,
+                Some(Ok(size)) => size,
+                Some(Err(_)) => return Why::Failed,
             };
             if let Err(why) = self.takes(&room[..size]).await {
                 return why;
@@ -414,9 +471,16 @@ impl<R: Role> Talk<R> {
         }
     }
 
-    /// Whether nothing is under way.
-    fn is_quiet(&self) -> bool {
-        self.under_way.available_permits() == usize::from(REQUESTS)
+    /// Until when a connection may rest that was heard, or has something under way, within a time.
+    fn rests(&mut self, idle: Duration) -> Option<Instant> {
+        let now = Instant::now();
+        if self.heard + idle <= now {
+            if self.under_way.available_permits() == usize::from(REQUESTS) {
+                return None;
+            }
+            self.heard = now;
+        }
+        Some(self.heard + idle)
     }
 
     /// Takes octets that came.
@@ -430,11 +494,12 @@ impl<R: Role> Talk<R> {
 
     /// Hears the messages that octets complete.
     async fn hears(&mut self, mut octets: &[u8]) -> Result<(), Why> {
+        let whole = if self.frames.is_whole() { octets } else { &[] };
         while !octets.is_empty() {
             let fed = self.assembler.feed(octets);
             let fed = fed.map_err(|_| Why::Fault(self.assembler.fault()))?;
             octets = &octets[fed..];
-            let heard = match self.assembler.message() {
+            let heard = match self.assembler.message_in(whole) {
                 Ok(Some(mut message)) => {
                     self.heard = Instant::now();
                     let is_long = self.frames.is_cut();
@@ -444,7 +509,7 @@ impl<R: Role> Talk<R> {
                 Err(_) => return Err(Why::Memory),
             };
             match heard {
-                Heard::Performed(request, id) => self.performs(*request, id).await,
+                Heard::Performed(request, id) => self.performs(request, id).await,
                 Heard::Refused(refusal, version, id, is_wished) => {
                     self.refuses(refusal, version, id, is_wished).await;
                 }
@@ -464,26 +529,17 @@ impl<R: Role> Talk<R> {
     }
 
     /// Has a request performed, once there is room for one more.
-    async fn performs(&mut self, request: Request, id: u32) {
-        let places = (self.under_way.clone(), self.front.requests.clone());
-        let (Ok(own), Ok(any)) = (places.0.acquire_owned().await, places.1.acquire_owned().await)
+    async fn performs(&mut self, request: Box<Request>, id: u32) {
+        let (Some(own), Some(any)) =
+            (place_of(&self.under_way).await, place_of(&self.front.requests).await)
         else {
             return;
         };
-        let (cancel, cancelled) = oneshot::channel();
-        locked(&self.cancels).insert(id, cancel);
+        let cancelled = request.ft.is_none().then(|| Cancelled::of(&self.cancels, id));
         let (version, wish) = (request.head.version, request.head.wish);
         let asked = Asked { peer: self.peer.clone(), request, cancelled };
-        let answering = self.front.role.clone().perform(asked);
-        let (cancels, due) = (self.cancels.clone(), self.due.clone());
-        tokio::spawn(async move {
-            let answer = answering.await;
-            locked(&cancels).remove(&id);
-            if let Some(answer) = answer.filter(|_| wish != Wish::None) {
-                _ = due.send(answer.reply(version, id)).await;
-            }
-            drop::<(OwnedSemaphorePermit, OwnedSemaphorePermit)>((own, any));
-        });
+        let (due, places) = (self.due.clone(), (own, any));
+        self.front.performers.perform(Job { asked, version, wish, id, due, places });
     }
 
     /// Ends a connection: what is under way is answered first, where the peer can hear that.
@@ -499,6 +555,22 @@ impl<R: Role> Talk<R> {
         if let Ok(octets) = last {
             _ = self.due.send(octets).await;
         }
+    }
+}
+
+/// A place of some, once there is one.
+async fn place_of(places: &Arc<Semaphore>) -> Option<OwnedSemaphorePermit> {
+    match places.clone().try_acquire_owned() {
+        Ok(place) => Some(place),
+        Err(_) => places.clone().acquire_owned().await.ok(),
+    }
+}
+
+/// What comes of a future, within a time where one is given.
+async fn within<T>(time: Option<Duration>, future: impl Future<Output = T>) -> Option<T> {
+    match time {
+        None => Some(future.await),
+        Some(time) => timeout(time, future).await.ok(),
     }
 }
 
@@ -551,19 +623,4 @@ fn asked(message: &mut Message<'_>, is_long: bool, sets: &mut Option<Vec<u8>>) -
         None => {}
     }
     Heard::Performed(Box::new(request), id)
-}
-
-/// Waits until something is to stop.
-trait Stops {
-    async fn wait_for_true(&mut self);
-}
-
-impl Stops for watch::Receiver<bool> {
-    async fn wait_for_true(&mut self) {
-        while !*self.borrow() {
-            if self.changed().await.is_err() {
-                return;
-            }
-        }
-    }
 }

@@ -3,12 +3,13 @@
 
 use crate::access::Clients;
 use crate::forward::{Answer, Ft, Guarded};
-use crate::front::{self, Answering, Asked, Bounds, Role};
+use crate::front::{self, Asked, Role};
 use crate::metrics::{self, metrics, Trouble};
 use crate::points::point;
 use crate::pool::{Loss, Places, Pool, Reply, UNWRITTEN};
 use crate::reasons::Refusal;
 use crate::store::{Begun, Key, Outcome, Store};
+use crate::timer::{after, Timer};
 use crate::tls::Acceptor;
 use crate::wire::{self, locked, shown};
 use crate::{reference, settings};
@@ -16,16 +17,19 @@ use lemonrudder::{Completed, Moment, Status};
 use std::collections::HashMap;
 use std::net::SocketAddr;
 use std::path::PathBuf;
+use std::sync::atomic::{AtomicUsize, Ordering};
 use std::sync::{Arc, Mutex};
 use std::time::Duration;
 use tokio::select;
-use tokio::sync::oneshot;
-use tokio::time::{sleep, timeout};
+use tokio::time::sleep;
 use tracing::warn;
 
 /// The minor code of a TRANSIENT that is a guard's own, of the range for experiments (CORBA 3.3 Part
 /// 1, 8.4.2): nothing was sent, and nothing is kept.
 pub const DECLINED: u32 = 0xffff_f001;
+
+/// How many clients are known at least, though nothing is under way of them.
+const CLIENTS: usize = 1024;
 
 /// How often what expired is taken out of the store.
 const PURGE: Duration = Duration::from_secs(10);
@@ -57,9 +61,7 @@ pub struct Guard {
     guarded: Guarded,
     /// How long a server may take for a request.
     timeout: Duration,
-    /// How many requests are under way of each client id, and how many may be.
-    clients: Mutex<HashMap<Vec<u8>, usize>>,
-    share: usize,
+    shares: Shares,
     /// How long an outcome is kept at most.
     keep: Option<Duration>,
     /// Which client ids peers may use.
@@ -90,8 +92,7 @@ pub async fn run(settings: settings::Guard) -> Result<(), String> {
             servers: Arc::new(servers),
         },
         timeout: common.timeout,
-        clients: Mutex::default(),
-        share,
+        shares: Shares { share, clients: Mutex::default() },
         keep: settings.keep,
         access,
     });
@@ -104,11 +105,11 @@ pub async fn run(settings: settings::Guard) -> Result<(), String> {
         metrics::listen(address, ready).await?;
     }
     let purging = tokio::spawn(purges(guard.clone()));
-    let bounds = Bounds { limits: common.limits, requests: settings.parked, drain: common.drain };
-    front::serve(guard.clone(), listeners, tls, bounds, wire::ended()).await;
+    let bounds = common.bounds(settings.parked);
+    let served = front::serve(guard.clone(), listeners, tls, bounds, wire::ended()).await;
     purging.abort();
     guard.store.close().await;
-    Ok(())
+    served
 }
 
 /// Takes what expired out of the store, again and again.
@@ -121,18 +122,51 @@ async fn purges(guard: Arc<Guard>) {
     }
 }
 
-/// A request's place in the share of its client.
-struct Held<'g>(&'g Guard, &'g [u8]);
+/// How many requests are under way of each client id, and how many may be.
+struct Shares {
+    share: usize,
+    clients: Mutex<Counts>,
+}
 
-impl Drop for Held<'_> {
-    fn drop(&mut self) {
-        let mut clients = locked(&self.0.clients);
-        if let Some(count) = clients.get_mut(self.1) {
-            *count -= 1;
-            if *count == 0 {
-                clients.remove(self.1);
-            }
+/// Counts of clients, and how many there may be before those are taken out of whom nothing is under
+/// way.
+#[derive(Default)]
+struct Counts {
+    counts: HashMap<Vec<u8>, Arc<AtomicUsize>>,
+    most: usize,
+}
+
+/// A request's place in the share of its client.
+struct Held(Arc<AtomicUsize>);
+
+impl Shares {
+    /// A place in the share of a client, if there is one left.
+    fn hold(&self, client: &[u8]) -> Option<Held> {
+        let mut clients = locked(&self.clients);
+        let Counts { counts, most } = &mut *clients;
+        if let Some(count) = counts.get(client) {
+            let is_left = count.load(Ordering::Relaxed) < self.share;
+            return is_left.then(|| Held::of(count));
         }
+        if counts.len() >= *most {
+            counts.retain(|_, count| count.load(Ordering::Relaxed) > 0);
+            *most = (2 * counts.len()).max(CLIENTS);
+        }
+        Some(Held::of(counts.entry(client.to_vec()).or_default()))
+    }
+}
+
+impl Held {
+    /// One more of a client, whose count is locked against others.
+    fn of(count: &Arc<AtomicUsize>) -> Held {
+        count.fetch_add(1, Ordering::Relaxed);
+        Held(count.clone())
+    }
+}
+
+impl Drop for Held {
+    fn drop(&mut self) {
+        self.0.fetch_sub(1, Ordering::Relaxed);
     }
 }
 
@@ -149,16 +183,15 @@ enum Sent {
 }
 
 impl Role for Guard {
-    fn perform(self: Arc<Self>, asked: Asked) -> Answering {
-        Box::pin(async move {
-            let is_keyed = if asked.request.ft.is_some() { "yes" } else { "no" };
-            metrics().requests.with_label_values(&[is_keyed]).inc();
-            let _parked = metrics().park();
-            match asked.request.ft.clone() {
-                Some(ft) => Some(self.keyed(asked, &ft).await),
-                None => self.free(asked).await,
-            }
-        })
+    async fn perform(&self, mut asked: Asked, timer: &mut Timer) -> Option<Answer> {
+        let _parked = metrics().park();
+        if let Some(ft) = asked.request.ft.take() {
+            metrics().keyed.inc();
+            Some(self.keyed(&mut asked, &ft, timer).await)
+        } else {
+            metrics().free.inc();
+            self.free(&mut asked, timer).await
+        }
     }
 }
 
@@ -172,33 +205,24 @@ impl Guard {
         (!is_there).then(|| "no server can be reached".to_owned())
     }
 
-    /// A place in the share of a client, if there is one left.
-    fn hold<'g>(&'g self, client: &'g [u8]) -> Option<Held<'g>> {
-        let mut clients = locked(&self.clients);
-        let count = clients.entry(client.to_vec()).or_default();
-        let is_left = *count < self.share;
-        *count += usize::from(is_left);
-        is_left.then(|| Held(self, client))
-    }
-
     /// Performs a request without FT_REQUEST.
-    async fn free(&self, asked: Asked) -> Option<Answer> {
-        let (peer, operation) = (asked.peer.clone(), shown(&asked.request.head.operation));
-        match self.sends(asked, true).await {
+    async fn free(&self, asked: &mut Asked, timer: &mut Timer) -> Option<Answer> {
+        match self.sends(asked, timer).await {
             Sent::Done(answer) => Some(answer),
             Sent::Maybe(name) => {
                 metrics().maybe.inc();
-                let (number, peer) = (peer.number, peer.address);
+                let (number, peer) = (asked.peer.number, asked.peer.address);
+                let operation = shown(&asked.request.head.operation);
                 warn!(number, %peer, %operation, "told MAYBE: it has no key");
                 Some(Answer::system(name, 0, Completed::Maybe))
             }
-            Sent::Not(refusal) => Some(peer.refuses(refusal, None)),
+            Sent::Not(refusal) => Some(asked.peer.refuses(refusal, None)),
             Sent::Cancelled => None,
         }
     }
 
     /// Performs a request with FT_REQUEST, or answers what became of it.
-    async fn keyed(&self, asked: Asked, ft: &Ft) -> Answer {
+    async fn keyed(&self, asked: &mut Asked, ft: &Ft, timer: &mut Timer) -> Answer {
         let peer = asked.peer.clone();
         let refused = |refusal| peer.refuses(refusal, Some(&ft.key));
         if self.access.as_ref().is_some_and(|it| !it.may(&peer.names, &ft.key.client)) {
@@ -211,7 +235,7 @@ impl Guard {
         if self.keep.is_some_and(|keep| ft.expiration > now + keep) {
             return refused(Refusal::Keep);
         }
-        let Some(_held) = self.hold(&ft.key.client) else { return refused(Refusal::Share) };
+        let Some(_held) = self.shares.hold(&ft.key.client) else { return refused(Refusal::Share) };
         point("before-begin");
         match self.store.begin(&ft.key, ft.expiration.0).await {
             Ok(Begun::New) => {}
@@ -221,7 +245,7 @@ impl Guard {
             Err(_) => return refused(Refusal::Store),
         }
         point("begun");
-        let answer = match self.sends(asked, false).await {
+        let answer = match self.sends(asked, timer).await {
             Sent::Done(answer) => answer,
             Sent::Maybe(name) => Answer::system(name, 0, Completed::Maybe),
             Sent::Not(refusal) => {
@@ -239,40 +263,44 @@ impl Guard {
     /// Keeps what a request is answered, and answers what is kept; nothing where it has expired and
     /// is taken out: whether it was told is not known then.
     async fn finishes(&self, key: &Key, answer: Answer) -> Option<Answer> {
-        let outcome = answer.outcome();
-        let kept = self.store.finish(key, outcome.clone()).await.ok()?;
+        let kept = self.store.finish(key, answer.outcome()).await.ok()?;
         says_maybe(key, &kept);
-        Some(if kept == outcome { answer } else { kept.into() })
+        Some(if answer.is_kept_as(&kept) { answer } else { kept.into() })
     }
 
     /// Sends a request to a server, and once more where that has not got it.
-    async fn sends(&self, mut asked: Asked, may_cancel: bool) -> Sent {
-        let mut sent = self.sends_once(&mut asked, may_cancel).await;
-        if matches!(sent, Sent::Not(Refusal::Server)) {
-            sent = self.sends_once(&mut asked, may_cancel).await;
+    async fn sends(&self, asked: &mut Asked, timer: &mut Timer) -> Sent {
+        let mut is_again = false;
+        loop {
+            match self.sends_once(asked, timer).await {
+                Sent::Not(Refusal::Server) if !is_again => is_again = true,
+                sent => return sent,
+            }
         }
-        sent
     }
 
-    async fn sends_once(&self, asked: &mut Asked, may_cancel: bool) -> Sent {
+    async fn sends_once(&self, asked: &mut Asked, timer: &mut Timer) -> Sent {
         let mut pending = match self.pool.send(&asked.request.head, &asked.request.body).await {
             Ok(pending) => pending,
             Err(loss) => return lost(loss),
         };
         metrics().performed.inc();
-        let is_cancelled = cancelled(&mut asked.cancelled);
-        let ended = select! {
-            ended = timeout(self.timeout, pending.reply()) => ended,
-            () = is_cancelled, if may_cancel => {
-                pending.cancel();
-                return Sent::Cancelled;
-            }
+        let replied = timer.until(after(self.timeout), pending.reply());
+        let ended = match &mut asked.cancelled {
+            None => replied.await,
+            Some(cancelled) => select! {
+                ended = replied => ended,
+                () = cancelled.is_said() => {
+                    pending.cancel();
+                    return Sent::Cancelled;
+                }
+            },
         };
         match ended {
-            Ok(Ok(Some(reply))) => self.told(reply, asked.peer.found).await,
-            Ok(Ok(None)) => Sent::Done(Answer::nothing()),
-            Ok(Err(loss)) => lost(loss),
-            Err(_) => Sent::Maybe("TIMEOUT"),
+            Some(Ok(Some(reply))) => self.told(reply, asked.peer.found).await,
+            Some(Ok(None)) => Sent::Done(Answer::nothing()),
+            Some(Err(loss)) => lost(loss),
+            None => Sent::Maybe("TIMEOUT"),
         }
     }
 
@@ -315,12 +343,5 @@ fn says_maybe(key: &Key, outcome: &Outcome) {
         metrics().maybe.inc();
         let (client, number) = (shown(&key.client), key.number);
         warn!(%client, number, "told MAYBE: nobody knows whether it was performed");
-    }
-}
-
-/// Ends where a client cancels, and else never.
-async fn cancelled(cancel: &mut oneshot::Receiver<()>) {
-    if cancel.await.is_err() {
-        std::future::pending::<()>().await;
     }
 }

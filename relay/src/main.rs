@@ -9,6 +9,7 @@ mod frames;
 mod front;
 mod guard;
 mod metrics;
+mod performers;
 mod points;
 mod pool;
 mod reasons;
@@ -16,16 +17,18 @@ mod reference;
 mod retry;
 mod settings;
 mod store;
+mod timer;
 mod tls;
 mod upstream;
 mod wire;
+mod workers;
 
 use settings::{Lead, Log, Role, Words};
 use std::env;
 use std::future::Future;
 use std::io::{stderr, IsTerminal};
 use std::process::ExitCode;
-use tokio::runtime::Runtime;
+use tokio::runtime::Builder;
 use tracing_subscriber::filter::LevelFilter;
 
 /// The status of a program that was told what it can't do.
@@ -52,8 +55,8 @@ fn log(form: Log) {
 /// Runs a role until it ends.
 fn run(form: Log, role: impl Future<Output = Result<(), String>>) -> ExitCode {
     log(form);
-    let ended = Runtime::new().map_err(|error| error.to_string()).and_then(|it| it.block_on(role));
-    match ended {
+    let runtime = Builder::new_current_thread().enable_all().build();
+    match runtime.map_err(|error| error.to_string()).and_then(|it| it.block_on(role)) {
         Ok(()) => ExitCode::SUCCESS,
         Err(why) => said(&[why], 1),
     }

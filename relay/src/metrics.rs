@@ -27,8 +27,9 @@ const SHORTEST: f64 = 0.0001;
 /// What is counted.
 pub struct Metrics {
     registry: Registry,
-    /// Requests that came, by whether they have a key.
-    pub requests: IntCounterVec,
+    /// Requests that came: with a key, and without one.
+    pub keyed: IntCounter,
+    pub free: IntCounter,
     /// Requests that were sent to a server.
     pub performed: IntCounter,
     /// Requests that were answered by an outcome that was kept; and those of them whose first was
@@ -51,12 +52,31 @@ pub struct Metrics {
     /// How long a transaction of the store took, and how many steps it had.
     pub writes: Histogram,
     pub batches: Histogram,
-    steps: HistogramVec,
+    steps: Steps,
     waiting: IntGauge,
     parked: IntGauge,
     oldest: Gauge,
     /// Since when what is under way is, in the order in which it came.
     since: Mutex<(u64, BTreeMap<u64, Instant>)>,
+}
+
+/// Steps of the store, each with the times that it took.
+struct Steps {
+    begin: Histogram,
+    finish: Histogram,
+    undo: Histogram,
+    purge: Histogram,
+    close: Histogram,
+}
+
+/// A step of the store.
+#[derive(Clone, Copy, Debug, PartialEq, Eq)]
+pub enum Step {
+    Begin,
+    Finish,
+    Undo,
+    Purge,
+    Close,
 }
 
 /// A request that is under way, as long as this is there.
@@ -66,7 +86,7 @@ pub struct Parked(u64);
 pub struct Waits(());
 
 /// A step of the store that is being taken, as long as this is there.
-pub struct Takes(&'static str, Instant);
+pub struct Takes(Step, Instant);
 
 /// What is counted of this process.
 pub fn metrics() -> &'static Metrics {
@@ -107,9 +127,30 @@ fn histogram(registry: &Registry, name: &str, help: &str, start: f64) -> Histogr
     taken(registry, Histogram::with_opts(options_of(name, help, start)))
 }
 
-/// Times of what differs in one word.
-fn histograms(registry: &Registry, name: &str, help: &str, word: &str) -> HistogramVec {
-    taken(registry, HistogramVec::new(options_of(name, help, SHORTEST), &[word]))
+impl Steps {
+    fn of(registry: &Registry) -> Steps {
+        let options = options_of("store_step_seconds", "Time of a step of the store", SHORTEST);
+        let all = taken(registry, HistogramVec::new(options, &["step"]));
+        let of = |step| all.with_label_values(&[step]);
+        Steps {
+            begin: of("begin"),
+            finish: of("finish"),
+            undo: of("undo"),
+            purge: of("purge"),
+            close: of("close"),
+        }
+    }
+
+    /// The times of a step.
+    fn times(&self, step: Step) -> &Histogram {
+        match step {
+            Step::Begin => &self.begin,
+            Step::Finish => &self.finish,
+            Step::Undo => &self.undo,
+            Step::Purge => &self.purge,
+            Step::Close => &self.close,
+        }
+    }
 }
 
 impl Metrics {
@@ -117,8 +158,10 @@ impl Metrics {
         let registry = Registry::new();
         let it = &registry;
         let oldest = ("oldest_parked_seconds", "For how long the oldest request is under way");
+        let requests = counts(it, "requests_total", "Requests that came", "keyed");
         Metrics {
-            requests: counts(it, "requests_total", "Requests that came", "keyed"),
+            keyed: requests.with_label_values(&["yes"]),
+            free: requests.with_label_values(&["no"]),
             performed: count(it, "performed_total", "Requests that were sent to a server"),
             repeats: count(it, "repeats_total", "Requests answered by an outcome that was kept"),
             after_restart: count(
@@ -139,7 +182,7 @@ impl Metrics {
                 "Connections to servers or guards that ended",
                 "why",
             ),
-            steps: histograms(it, "store_step_seconds", "Time of a step of the store", "step"),
+            steps: Steps::of(it),
             waiting: gauge(it, "waiting", "Requests that wait for their first transmission"),
             writes: histogram(it, "store_write_seconds", "Time of a transaction", SHORTEST),
             batches: histogram(it, "store_write_steps", "Steps of a transaction", 1.0),
@@ -171,7 +214,7 @@ impl Metrics {
 
     /// Takes the time of a step, until what is answered is dropped.
     #[must_use]
-    pub fn takes(&self, step: &'static str) -> Takes {
+    pub fn takes(&self, step: Step) -> Takes {
         Takes(step, Instant::now())
     }
 
@@ -201,8 +244,7 @@ impl Drop for Waits {
 
 impl Drop for Takes {
     fn drop(&mut self) {
-        let all = metrics();
-        all.steps.with_label_values(&[self.0]).observe(self.1.elapsed().as_secs_f64());
+        metrics().steps.times(self.0).observe(self.1.elapsed().as_secs_f64());
     }
 }
 

@@ -11,18 +11,20 @@ use crate::points::point;
 use crate::reasons;
 use crate::tls::Connector;
 use crate::wire::{self, locked, Reading, Stream, Writing};
+use crate::workers::{busy, here};
 use lemonrudder::{write, Assembler, Completed, Limits, MessageType, Order, Version, Wish};
-use std::collections::{BTreeMap, HashMap};
+use std::collections::BTreeMap;
 use std::io;
 use std::net::SocketAddr;
+use std::pin::pin;
 use std::sync::atomic::{AtomicU32, Ordering};
 use std::sync::{Arc, Mutex};
 use std::time::{Duration, Instant};
-use tokio::io::{AsyncReadExt, AsyncWriteExt};
+use tokio::io::AsyncReadExt;
 use tokio::select;
 use tokio::sync::{mpsc, oneshot, Notify};
 use tokio::task::JoinHandle;
-use tokio::time::{sleep_until, timeout};
+use tokio::time::{sleep, sleep_until, timeout};
 use tracing::{info, warn};
 
 /// What is written at once, where there is so much.
@@ -71,6 +73,9 @@ impl Reply {
 /// What came of a request; no reply, where none was wished.
 type Ending = Result<Option<Reply>, Loss>;
 
+/// Why a connection ends, and what becomes of the requests that wait, where it does.
+type End = Result<(), (&'static str, Loss)>;
+
 /// What is to be written.
 enum Due {
     Request { id: u32, wish: Wish, octets: Vec<u8>, ended: oneshot::Sender<Ending> },
@@ -86,6 +91,8 @@ struct Waiting {
 
 /// A connection.
 struct Line {
+    /// The thread that it is of. Others send on it where they have none.
+    home: usize,
     next: AtomicU32,
     due: mpsc::UnboundedSender<Due>,
     waiting: Mutex<Waiting>,
@@ -137,7 +144,7 @@ pub struct Terms {
 pub struct Pool {
     places: Box<dyn Places>,
     terms: Terms,
-    classes: Mutex<HashMap<Vec<u8>, Arc<Class>>>,
+    classes: Mutex<BTreeMap<Vec<u8>, Arc<Class>>>,
 }
 
 /// A request that was handed to a connection.
@@ -156,7 +163,9 @@ impl Pool {
 
     /// Whether a connection is there, or is within a short time.
     pub async fn is_there(self: &Arc<Self>) -> bool {
-        matches!(timeout(SHORTLY, self.line(&[])).await, Ok(Ok(_)))
+        let is_open =
+            self.class(&[]).is_ok_and(|class| least(locked(&class.lines).iter()).is_some());
+        is_open || matches!(timeout(SHORTLY, self.line(&[])).await, Ok(Ok(_)))
     }
 
     /// A connection of its own, to an address.
@@ -188,17 +197,23 @@ impl Pool {
     /// new one.
     async fn line(self: &Arc<Self>, sets: &[u8]) -> Result<Arc<Line>, Loss> {
         let class = self.class(sets)?;
-        if let Some((line, is_busy)) = class.best(self.terms.most) {
-            if is_busy {
-                let (pool, class) = (self.clone(), class.clone());
-                tokio::spawn(async move {
-                    if let Ok(mut opening) = class.opening.try_lock() {
-                        _ = pool.open(&class, &mut opening).await;
-                    }
-                });
-            }
-            return Ok(line);
+        let Some((line, is_busy)) = class.best(self.terms.most) else {
+            return Box::pin(self.first(&class)).await;
+        };
+        if is_busy {
+            let pool = self.clone();
+            tokio::spawn(async move {
+                let Ok(mut opening) = class.opening.try_lock() else { return };
+                if class.best(pool.terms.most).is_some_and(|(_, is_more)| is_more) {
+                    _ = pool.open(&class, &mut opening).await;
+                }
+            });
         }
+        Ok(line)
+    }
+
+    /// A connection, where there is none: one that somebody opens by now, or that is opened here.
+    async fn first(self: &Arc<Self>, class: &Arc<Class>) -> Result<Arc<Line>, Loss> {
         let since = Instant::now();
         let mut opening = class.opening.lock().await;
         if let Some((line, _)) = class.best(self.terms.most) {
@@ -207,7 +222,7 @@ impl Pool {
         if opening.failed.is_some_and(|failed| failed > since) {
             return Err(Loss::Unsent);
         }
-        self.open(&class, &mut opening).await
+        self.open(class, &mut opening).await
     }
 
     /// The connections for these code sets.
@@ -255,7 +270,7 @@ impl Pool {
         let (reading, writing) = stream.halves();
         let (due, dues) = mpsc::unbounded_channel();
         let (next, waiting, left) = (AtomicU32::new(1), Mutex::default(), Notify::new());
-        let line = Arc::new(Line { next, due, waiting, left });
+        let line = Arc::new(Line { home: here(), next, due, waiting, left });
         locked(&class.lines).push(line.clone());
         let writer = tokio::spawn(writes(line.clone(), writing, dues));
         let (pool, class, read) = (self.clone(), class.clone(), line.clone());
@@ -272,13 +287,28 @@ impl Pool {
     }
 }
 
+/// The connection with the fewest outstanding requests, and how many those are.
+fn least<'c>(lines: impl Iterator<Item = &'c Arc<Line>>) -> Option<(usize, &'c Arc<Line>)> {
+    lines.filter_map(|line| Some((line.load()?, line))).min_by_key(|(load, _)| *load)
+}
+
 impl Class {
-    /// The connection with the fewest outstanding requests, and whether there should be one more.
+    /// The connection with the fewest outstanding requests, of this thread where it has one, and
+    /// whether there should be one more: each thread has its share of so many.
     fn best(&self, most: usize) -> Option<(Arc<Line>, bool)> {
-        let lines = locked(&self.lines);
-        let loads = lines.iter().filter_map(|line| Some((line.load()?, line)));
-        let (load, line) = loads.min_by_key(|(load, _)| *load)?;
-        Some((line.clone(), load > 0 && lines.len() < most))
+        let (lines, home, share) = (locked(&self.lines), here(), most.div_ceil(busy()));
+        let of = |home| lines.iter().filter(move |line| line.home == home);
+        if let Some((load, line)) = least(of(home)) {
+            let is_more = load > 0 && lines.len() < most && of(home).count() < share;
+            return Some((line.clone(), is_more));
+        }
+        let (load, line) = least(lines.iter())?;
+        if load > 0 || lines.len() < most || of(line.home).count() <= share || !line.ends_idle() {
+            return Some((line.clone(), lines.len() < most));
+        }
+        // (its place is for one of this thread)
+        line.left.notify_one();
+        least(lines.iter()).map(|(_, line)| (line.clone(), false))
     }
 
     /// Ends its connections, where nothing waits on any, and nobody looks for one: whether that is so.
@@ -315,6 +345,21 @@ impl Line {
             Some(ended) => _ = ended.send(Ok(Some(reply))),
             None => metrics().late.inc(),
         }
+    }
+
+    /// Rests, after something came last: why the connection ends, where that is too long ago.
+    fn rests(&self, heard: &mut Instant, idle: Duration, writer: &JoinHandle<()>) -> End {
+        if heard.elapsed() < idle {
+            return Ok(());
+        }
+        if self.ends_idle() {
+            return Err(("it was idle", Loss::Unsent));
+        }
+        if writer.is_finished() {
+            return Err(("it takes nothing", Loss::Lost));
+        }
+        *heard = Instant::now();
+        Ok(())
     }
 
     /// Ends a connection on which nothing waits: whether nothing did.
@@ -367,11 +412,7 @@ async fn writes(line: Arc<Line>, mut half: Writing, mut dues: mpsc::UnboundedRec
     while let Some(first) = dues.recv().await {
         octets.clear();
         let quiet = line.gather(first, &mut dues, &mut octets);
-        let written = timeout(UNWRITTEN, async {
-            half.write_all(&octets).await?;
-            half.flush().await
-        });
-        let is_written = matches!(written.await, Ok(Ok(())));
+        let is_written = wire::writes(&mut half, &octets, UNWRITTEN).await;
         if is_written {
             point("sent");
         }
@@ -400,25 +441,29 @@ async fn reads(
         return ("memory is short", Loss::Unsent);
     };
     let (mut frames, mut room) = (Frames::new(compose::LONGEST), vec![0; BATCH]);
+    let (idle, mut heard) = (pool.terms.idle, Instant::now());
+    let (mut left, mut quiet) = (pin!(line.left.notified()), pin!(sleep(idle)));
     loop {
         let read = select! {
-            read = timeout(pool.terms.idle, half.read(&mut room)) => read,
-            () = line.left.notified() => return ("others had to be opened", Loss::Unsent),
+            biased;
+            read = half.read(&mut room) => read,
+            () = &mut left => return ("others had to be opened", Loss::Unsent),
+            () = &mut quiet => {
+                if let Err(why) = line.rests(&mut heard, idle, writer) {
+                    return why;
+                }
+                quiet.as_mut().reset((heard + idle).into());
+                continue;
+            }
         };
         let size = match read {
-            Ok(Ok(0)) => return ("it was closed without a goodbye", Loss::Lost),
-            Ok(Ok(size)) => size,
-            Ok(Err(error)) => return (named(&error), Loss::Lost),
-            Err(_) if line.ends_idle() => return ("it was idle", Loss::Unsent),
-            Err(_) if writer.is_finished() => return ("it takes nothing", Loss::Lost),
-            Err(_) => continue,
+            Ok(0) => return ("it was closed without a goodbye", Loss::Lost),
+            Ok(size) => size,
+            Err(error) => return (named(&error), Loss::Lost),
         };
-        let mut octets = &room[..size];
-        while !octets.is_empty() {
-            let taken = frames.take(&mut octets);
-            if let Err(end) = takes(line, &mut assembler, taken.octets(), frames.is_cut()) {
-                return end;
-            }
+        heard = Instant::now();
+        if let Err(end) = takes(line, &mut frames, &mut assembler, &room[..size]) {
+            return end;
         }
     }
 }
@@ -432,21 +477,27 @@ fn named(error: &io::Error) -> &'static str {
 }
 
 /// Takes octets that came on a connection: it ends where it answers an error.
-fn takes(
-    line: &Line,
-    assembler: &mut Assembler,
-    mut octets: &[u8],
-    is_long: bool,
-) -> Result<(), (&'static str, Loss)> {
+fn takes(line: &Line, frames: &mut Frames, assembler: &mut Assembler, mut octets: &[u8]) -> End {
+    while !octets.is_empty() {
+        let taken = frames.take(&mut octets);
+        hears(line, assembler, taken.octets(), frames)?;
+    }
+    Ok(())
+}
+
+/// Hears the messages that octets complete.
+fn hears(line: &Line, assembler: &mut Assembler, mut octets: &[u8], frames: &Frames) -> End {
+    let whole = if frames.is_whole() { octets } else { &[] };
     while !octets.is_empty() {
         let fed = assembler.feed(octets);
         let fed = fed.map_err(|_| (reasons::of_fault(assembler.fault()), Loss::Lost))?;
         octets = &octets[fed..];
-        let message = assembler.message().map_err(|_| ("memory is short", Loss::Lost))?;
+        let message = assembler.message_in(whole).map_err(|_| ("memory is short", Loss::Lost))?;
         let Some(mut message) = message else { continue };
         match message.message_type() {
             MessageType::Reply => {
-                let reply = if is_long { Reply::long() } else { forward::reply_of(&mut message) };
+                let reply =
+                    if frames.is_cut() { Reply::long() } else { forward::reply_of(&mut message) };
                 line.answers(message.request_id(), reply);
             }
             MessageType::CloseConnection => return Err(("it said CloseConnection", Loss::Closed)),

@@ -7,7 +7,7 @@
 
 use crate::compose::{Body, Head};
 use crate::forward::{Answer, Request, FT_REQUEST, PROFILES};
-use crate::front::{self, Answering, Asked, Bounds, Peer, Role};
+use crate::front::{self, Asked, Peer, Role};
 use crate::guard::DECLINED;
 use crate::metrics::{self, metrics, Trouble};
 use crate::points::point;
@@ -15,6 +15,7 @@ use crate::pool::{Loss, Pool, Reply, Terms};
 use crate::reasons::Refusal;
 use crate::settings;
 use crate::store::Key;
+use crate::timer::Timer;
 use crate::tls::Connector;
 use crate::upstream::Upstream;
 use crate::wire::{self, shown};
@@ -27,7 +28,7 @@ use std::sync::{Arc, Mutex, PoisonError};
 use std::time::Duration;
 use tokio::select;
 use tokio::sync::watch;
-use tokio::time::{sleep, timeout_at, Instant};
+use tokio::time::{sleep, Instant};
 use tracing::warn;
 
 /// The pause after the second loss of a request, and the longest.
@@ -66,10 +67,9 @@ pub async fn run(settings: settings::Retry) -> Result<(), String> {
         metrics::listen(address, ready).await?;
     }
     let own = wire::all_parts(&[&common.published[..], &common.listen].concat());
-    let bounds = Bounds { limits: common.limits, requests: REQUESTS, drain: common.drain };
+    let bounds = common.bounds(REQUESTS);
     let role = Retry::new(guards, own, keys, common.timeout);
-    front::serve(role, listeners, None, bounds, wire::ended()).await;
-    Ok(())
+    front::serve(role, listeners, None, bounds, wire::ended()).await
 }
 
 /// What keeps it from being ready.
@@ -157,12 +157,10 @@ pub struct Retry {
 }
 
 impl Role for Retry {
-    fn perform(self: Arc<Self>, asked: Asked) -> Answering {
-        Box::pin(async move {
-            metrics().requests.with_label_values(&["no"]).inc();
-            let _parked = metrics().park();
-            Some(self.call(&asked.peer, asked.request).await)
-        })
+    async fn perform(&self, asked: Asked, timer: &mut Timer) -> Option<Answer> {
+        metrics().free.inc();
+        let _parked = metrics().park();
+        Some(self.call(&asked.peer, *asked.request, timer).await)
     }
 }
 
@@ -182,14 +180,14 @@ impl Retry {
     }
 
     /// Sends a request until it is answered, or its time is over.
-    async fn call(&self, peer: &Peer, request: Request) -> Answer {
+    async fn call(&self, peer: &Peer, request: Request, timer: &mut Timer) -> Answer {
         point("asked");
         let Ok(mut call) = self.keyed(request) else {
             return peer.refuses(Refusal::Memory, None);
         };
-        let ended = match timeout_at(call.ends, self.sends(&mut call)).await {
-            Ok(ended) => ended,
-            Err(_) => over(&call),
+        let ended = match timer.until(call.ends, self.sends(&mut call)).await {
+            Some(ended) => ended,
+            None => over(&call),
         };
         point("completed");
         ended.unwrap_or_else(|refusal| peer.refuses(refusal, Some(&call.key)))

@@ -12,6 +12,7 @@
 //! the file is made the word that says the same.
 
 use crate::compose::LONGEST;
+use crate::front::Bounds;
 use crate::pool::Terms;
 use crate::store::Store;
 use crate::{access, front, reference, tls};
@@ -21,7 +22,9 @@ use std::collections::BTreeMap;
 use std::ffi::OsString;
 use std::fmt::Display;
 use std::fs;
+use std::num::NonZero;
 use std::path::{Path, PathBuf};
+use std::thread;
 use std::time::Duration;
 use tokio::net::TcpListener;
 use toml::{Spanned, Value};
@@ -150,6 +153,21 @@ impl Common {
     pub fn terms(&self, unconfirmed: Duration, listeners: &[TcpListener]) -> Terms {
         let (most, idle) = (self.connections, self.limits.idle);
         Terms { tls: None, most, idle, unconfirmed, own: front::places_of(listeners) }
+    }
+
+    /// How many threads serve, each by connections of its own to a server or a guard: one for two
+    /// processors, since clients or servers are on the others, and few wake each other less.
+    #[must_use]
+    pub fn threads(&self) -> usize {
+        let processors = thread::available_parallelism().map_or(1, NonZero::get);
+        processors.div_ceil(2).min(self.connections)
+    }
+
+    /// What clients may take, who may have so many requests under way.
+    #[must_use]
+    pub fn bounds(&self, requests: usize) -> Bounds {
+        let (limits, drain, threads) = (self.limits.clone(), self.drain, self.threads());
+        Bounds { limits, requests, drain, threads }
     }
 }
 

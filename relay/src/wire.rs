@@ -3,6 +3,7 @@
 use crate::pool::Terms;
 use crate::settings::Limits;
 use crate::tls::Acceptor;
+use futures_util::poll;
 use socket2::{SockRef, TcpKeepalive};
 use std::env;
 use std::future::Future;
@@ -11,9 +12,11 @@ use std::net::SocketAddr;
 use std::os::linux::net::SocketAddrExt;
 use std::os::unix::ffi::OsStrExt;
 use std::os::unix::net::{self, UnixDatagram};
+use std::pin::pin;
 use std::sync::{Mutex, MutexGuard, PoisonError};
+use std::task::Poll;
 use std::time::Duration;
-use tokio::io::{AsyncRead, AsyncWrite};
+use tokio::io::{AsyncRead, AsyncWrite, AsyncWriteExt};
 use tokio::net::{lookup_host, TcpStream};
 use tokio::select;
 use tokio::signal::unix::{signal, SignalKind};
@@ -95,6 +98,19 @@ pub fn shown(octets: &[u8]) -> String {
 /// What a mutex has, also where a thread that held it has panicked.
 pub fn locked<T>(mutex: &Mutex<T>) -> MutexGuard<'_, T> {
     mutex.lock().unwrap_or_else(PoisonError::into_inner)
+}
+
+/// Writes octets, and says whether they were taken within a time.
+pub async fn writes(half: &mut Writing, octets: &[u8], patience: Duration) -> bool {
+    let mut writing = pin!(async {
+        half.write_all(octets).await?;
+        half.flush().await
+    });
+    // (most are taken at once, and need no time)
+    match poll!(writing.as_mut()) {
+        Poll::Ready(written) => written.is_ok(),
+        Poll::Pending => matches!(timeout(patience, writing).await, Ok(Ok(()))),
+    }
 }
 
 /// From now on the program is not ended by SIGTERM or SIGINT: the future ends, once it is asked to

@@ -167,7 +167,7 @@ class Hostile(unittest.TestCase):
         """Before the guard: who waits is told MAYBE, the connection ends with its reason, and others are served."""
         counters = Counters()
         with Server() as server, Relay("guard", "--server", f"127.0.0.1:{server.port}", "--store", "memory",
-                                       "--timeout", "2", *counters.words) as guard:
+                                       "--timeout", "2", "--connections", "1", *counters.words) as guard:
             guard.begin()
             for number, (why, octets) in enumerate(OF_SERVERS.items()):
                 with self.subTest(why):

@@ -73,6 +73,16 @@ impl Assembler {
     ///
     /// `Range`, where it has a number that this version of the crate has no name for.
     pub fn message(&mut self) -> Result<Option<Message<'_>>, Error> {
+        self.message_in(&[])
+    }
+
+    /// The same, where these octets are all of a message that came in one frame: its body is taken
+    /// from them, which is less work.
+    ///
+    /// # Errors
+    ///
+    /// As of [`message`](Assembler::message).
+    pub fn message_in(&mut self, frame: &[u8]) -> Result<Option<Message<'_>>, Error> {
         let mut said = lr_message::default();
         // SAFETY: it is as large as is said.
         let found = unsafe {
@@ -83,7 +93,14 @@ impl Assembler {
         }
         self.copy(sys::LR_PART_KEY, said.key_size)?;
         self.copy(sys::LR_PART_OPERATION, said.operation_size)?;
-        self.copy(sys::LR_PART_BODY, said.body_size)?;
+        match body_in(frame, &said) {
+            Some(body) => {
+                let room = &mut self.parts[sys::LR_PART_BODY as usize];
+                room.clear();
+                room.extend_from_slice(body);
+            }
+            None => self.copy(sys::LR_PART_BODY, said.body_size)?,
+        }
         self.copy(sys::LR_PART_CLIENT, said.client_size)?;
         self.copy(sys::LR_PART_PAYLOAD, said.payload_size)?;
         Ok(Some(Message {
@@ -107,6 +124,12 @@ impl Assembler {
             sys::lr_assembler_part(&mut self.slot, part, room.as_mut_ptr().cast(), room.len())
         })
     }
+}
+
+/// The body of a message, where it is in these octets.
+fn body_in<'f>(frame: &'f [u8], said: &lr_message) -> Option<&'f [u8]> {
+    let body = frame.get(error::size(said.body_at).ok()?..)?;
+    (!body.is_empty() && body.len() as u64 == said.body_size).then_some(body)
 }
 
 /// A message, lent until more is fed.

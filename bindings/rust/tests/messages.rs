@@ -55,6 +55,18 @@ fn a_request_is_written_and_read() -> Result<(), Error> {
 }
 
 #[test]
+fn a_body_is_taken_from_the_frame() -> Result<(), Error> {
+    let other = [&ADD[..80], b"\0\0\0\x08"].concat();
+    for (frame, number) in [(ADD, 7), (&other, 8), (&ADD[..83], 7), (&ADD[80..], 7), (b"", 7)] {
+        let mut assembler = Assembler::open(Limits::default())?;
+        assembler.feed(ADD)?;
+        let message = assembler.message_in(frame)?.expect("it is whole");
+        assert_eq!((message.reader().long()?, message.key()), (number, Some(&b"c"[..])));
+    }
+    Ok(())
+}
+
+#[test]
 fn a_long_context_is_copied_whole() -> Result<(), Error> {
     let context: Vec<u8> = (0..=255).cycle().take(5000).collect();
     let octets = add(&context)?;

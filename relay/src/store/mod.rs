@@ -157,7 +157,7 @@ impl Store {
     pub async fn begin(&self, key: &Key, expiration: u64) -> Result<Begun, Error> {
         match self {
             Store::Memory(store) => store.begin(key, expiration).await,
-            Store::Written(steps) => steps.begin(key, expiration).await,
+            Store::Written(steps) => Box::pin(steps.begin(key, expiration)).await,
         }
     }
 
@@ -171,7 +171,7 @@ impl Store {
     pub async fn finish(&self, key: &Key, outcome: Outcome) -> Result<Outcome, Error> {
         match self {
             Store::Memory(store) => store.finish(key, outcome),
-            Store::Written(steps) => steps.finish(key, outcome).await,
+            Store::Written(steps) => Box::pin(steps.finish(key, outcome)).await,
         }
     }
 
@@ -187,7 +187,7 @@ impl Store {
                 store.undo(key);
                 Ok(())
             }
-            Store::Written(steps) => steps.undo(key).await,
+            Store::Written(steps) => Box::pin(steps.undo(key)).await,
         }
     }
 
@@ -200,7 +200,7 @@ impl Store {
     pub async fn purge(&self, now: u64) -> Result<u64, Error> {
         match self {
             Store::Memory(store) => Ok(store.purge(now)),
-            Store::Written(steps) => steps.purge(now).await,
+            Store::Written(steps) => Box::pin(steps.purge(now)).await,
         }
     }
 
@@ -215,7 +215,7 @@ impl Store {
     /// Ends it: what this guard has begun and not finished is of a guard that lives no more.
     pub async fn close(&self) {
         if let Store::Written(steps) = self {
-            steps.close().await;
+            Box::pin(steps.close()).await;
         }
     }
 }

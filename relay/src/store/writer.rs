@@ -2,7 +2,7 @@
 //! one transaction. Who comes while one is being written waits for the next.
 
 use super::{Begun, Error, Key, Outcome};
-use crate::metrics::{metrics, Takes, Waits};
+use crate::metrics::{self, metrics, Takes, Waits};
 use std::collections::{HashMap, HashSet, VecDeque};
 use std::future::Future;
 use std::iter;
@@ -79,21 +79,21 @@ struct Job {
 }
 
 impl Step {
-    /// What it is called in counters.
-    fn name(&self) -> &'static str {
+    /// What it is in counters.
+    fn counted(&self) -> metrics::Step {
         match self {
-            Step::Begin(..) => "begin",
-            Step::Finish(..) => "finish",
-            Step::Undo(_) => "undo",
-            Step::Purge(..) => "purge",
-            Step::Close => "close",
+            Step::Begin(..) => metrics::Step::Begin,
+            Step::Finish(..) => metrics::Step::Finish,
+            Step::Undo(_) => metrics::Step::Undo,
+            Step::Purge(..) => metrics::Step::Purge,
+            Step::Close => metrics::Step::Close,
         }
     }
 }
 
 impl Job {
     fn new(step: Step, caller: Option<oneshot::Sender<Given>>) -> Job {
-        Job { takes: Some(metrics().takes(step.name())), step, caller, waits: None }
+        Job { takes: Some(metrics().takes(step.counted())), step, caller, waits: None }
     }
 
     fn tell(self, given: Given) {
