@@ -491,3 +491,43 @@ class Names(unittest.TestCase):
         """Each system exception."""
         line = lines_alone(giop.system_exception(1, name, completed=1))[1]
         self.assertIn(f" status SYSTEM_EXCEPTION {name} minor 0x00000000 completed NO body ", line)
+
+
+class Bounds(unittest.TestCase):
+    """What is remembered has limits, and beyond them is counted."""
+
+    # how many rows a summary has, and how many messages a list names
+    MOST = 65536
+
+    @classmethod
+    def setUpClass(cls):
+        programs.program("GIOP")
+
+    def ended(self, messages, *words):
+        """The lines at the end of a connection on which one side sends these, and the objects of JSON there."""
+        made = Session(random.Random(SEED))
+        made.open()
+        text = "".join([*made.text, *(octets.hex() + "\n" for octets in messages)])
+        lines = traced(text, *words)[1].splitlines()
+        return lines, [json.loads(line) for line in traced(text, "--json", *words)[1].splitlines()]
+
+    def test_rows_of_a_summary(self):
+        """Operations beyond those that have rows are counted together."""
+        lines, objects = self.ended([giop.request(2 * n, b"k", f"o{n}") for n in range(self.MOST + 3)], "--summary")
+        rows = [line for line in lines if " requests, " in line]
+        self.assertEqual(len(rows), self.MOST + 1)
+        self.assertEqual(rows[-1], "(others): 3 requests, 0 answers, 0 repeats, 0 octets asked, 0 answered")
+        names = sorted(f"o{n}" for n in range(self.MOST))
+        one = "1 requests, 0 answers, 0 repeats, 0 octets asked, 0 answered"
+        self.assertTrue(rows[:-1] == [f"object A operation {name}: {one}" for name in names])
+        rows = [one for one in objects if "requests" in one]
+        self.assertEqual((len(rows), rows[-1]["requests"], rows[-1]["others"]), (self.MOST + 1, 3, True))
+        self.assertEqual({one.get("others", False) for one in rows[:-1]}, {False})
+
+    def test_lists(self):
+        """Replies without a request beyond those that are listed are counted."""
+        lines, objects = self.ended([giop.reply(n) for n in range(self.MOST + 3)])
+        listed = "".join(f" {n}" for n in range(1, self.MOST + 1))
+        self.assertTrue(f"replies without a request {self.MOST + 3}:{listed} and 3 later ones" in lines)
+        self.assertEqual((len(objects[-1]["strays"]), objects[-1]["more_strays"]), (self.MOST, 3))
+        self.assertNotIn("more_repeats", objects[-1])

@@ -7,6 +7,7 @@
 """
 from __future__ import annotations
 
+import itertools
 import json
 import os
 import random
@@ -284,10 +285,14 @@ def listed(before: str, members: list, values: list, behind: str) -> str:
 
 
 def same(wanted: str, line: str) -> bool:
-    """Whether a line is the one that is wanted, whatever digits its floats have."""
-    parts = re.split("<((?:[0-9a-f]{8}){1,2})>", wanted)
+    """Whether a line is the one that is wanted, whatever digits its floats have. Of a line with floats that may be cut
+    only the beginning is compared: their digits decide where."""
+    parts, is_cut = re.split("<((?:[0-9a-f]{8}){1,2})>", wanted), False
+    if len(parts) > 1 and len(wanted) >= CHARACTERS // 2:
+        ends = itertools.accumulate(map(len, parts))
+        parts, is_cut = [part for part, end in zip(parts, ends) if end < CHARACTERS // 4], True
     form = "".join("([-+.0-9e]+)" if i % 2 else re.escape(part) for i, part in enumerate(parts))
-    found = re.fullmatch(form, line)
+    found = re.match(form, line) if is_cut else re.fullmatch(form, line)
     return found is not None and all(
         struct.pack("<f" if len(digits) == 8 else "<d", float(text)).hex() == digits
         for digits, text in zip(parts[1::2], found.groups()))
