@@ -16,8 +16,8 @@ from tests import base
 from tests.embed import idl_test
 from tests.embed import idl_roads
 from tests.embed.idl_test import (
-    DEPOSITS, EMBED, EXAMPLES, FOLDER, SHAPES, backend, compiled, dialogue, exchanged, made, omniidl, omniorb_program,
-    run, serving)
+    COMBAT, DEPOSITS, EMBED, EXAMPLES, FOLDER, OF_COMBAT, SHAPES, backend, compiled, dialogue, exchanged, made, omniidl,
+    omniorb_program, run, serving)
 from tests.programs import ROOT, needs, tool
 
 TYPES = idl_test.TYPES
@@ -331,6 +331,11 @@ class Bank(unittest.TestCase):
         bank = words_of(way, "bank_c", *BANK)
         self.assertEqual(dialogue([*bank, "serve"], [self.omniorb]), DEPOSITS)
         self.assertEqual(dialogue([self.omniorb, "serve", "-ORBendPoint", "giop:tcp:127.0.0.1:"], bank), DEPOSITS)
+
+    @needs(*OF_COMBAT)
+    def test_served_to_combat(self) -> None:
+        """A client of Combat calls it."""
+        self.assertEqual(dialogue([*words_of(next(iter(WAYS)), "bank_c", *BANK), "serve"], COMBAT), DEPOSITS)
 
     @base.each(idl_roads.ROADS.items)
     def test_roads(self, road: Any) -> None:

@@ -18,7 +18,9 @@ from typing import Any
 from tests import base
 from tests.embed import idl_test, rust_test
 from tests.embed import idl_roads
-from tests.embed.idl_test import DEPOSITS, EMBED, EXAMPLES, dialogue, exchanged, omniidl, omniorb_program, run, serving
+from tests.embed.idl_test import (
+    COMBAT, DEPOSITS, EMBED, EXAMPLES, OF_COMBAT, dialogue, exchanged, omniidl, omniorb_program, run, serving,
+)
 from tests.programs import NEEDS, ROOT, library, needs
 
 TYPES = 8
@@ -447,6 +449,11 @@ class Bank(unittest.TestCase):
     def test_served(self) -> None:
         """A client of omniORB calls it."""
         self.assertEqual(dialogue([*self.bank, "serve"], [self.omniorb]), DEPOSITS)
+
+    @needs(*OF_COMBAT)
+    def test_served_to_combat(self) -> None:
+        """A client of Combat calls it."""
+        self.assertEqual(dialogue([*self.bank, "serve"], COMBAT), DEPOSITS)
 
     def test_called(self) -> None:
         """It calls a server of omniORB."""

@@ -1,4 +1,4 @@
-"""Tests what omniidl makes of IDL by the backend of idl/lemonrudder, against omniORB.
+"""Tests what omniidl makes of IDL by the backend of idl/lemonrudder, against omniORB and Combat.
 
 Values of random types go to a server of omniORB and come back, and go through a client of omniORB to a servant in
 Python; the bank of examples/bank.idl is served and called in each language.
@@ -724,6 +724,8 @@ def dialogue(server: list[str], client: list[str]) -> list[str]:
         return [run(*client, "deposit", reference, *row).strip() for row in rows]
 
 
+# a client over Combat, and what it takes: one of the programs of its package
+COMBAT, OF_COMBAT = ["tclsh", os.path.join(EMBED, "combat_bank.tcl")], ("tclsh", "idl2tcl")
 DEPOSITS = ["5", "overdrawn: 5", str((1 << 63) - 1), "0"]
 BANKS = {"Python": bank_python, "C++": bank_cpp, "C++ by clang": functools.partial(bank_cpp, "clang++")}
 
@@ -754,6 +756,12 @@ class Bank(unittest.TestCase):
     def test_served(self, bank: Any) -> None:
         """A client of omniORB calls it."""
         self.assertEqual(dialogue([*bank(), "serve"], [self.omniorb]), DEPOSITS)
+
+    @needs(*OF_COMBAT)
+    @base.each(BANKS.items)
+    def test_served_to_combat(self, bank: Any) -> None:
+        """A client of Combat calls it."""
+        self.assertEqual(dialogue([*bank(), "serve"], COMBAT), DEPOSITS)
 
     @base.each(BANKS.items)
     def test_called(self, bank: Any) -> None:
