@@ -12,6 +12,7 @@
 --   Memory      where reading may run out of memory
 --   Answering   what `read`, `read_list` and `pass_list` return
 --   Fitting     which types are valid, and which values are of a type
+--   Validity    that types are valid is a fact
 --   Writing     the octets that are written, and what a `Writer` appends
 --   Octets      values in which each octet is one
 --   Encapsulation  octets that name their own byte order
@@ -29,6 +30,7 @@ pub mod Reading
 pub mod Memory
 pub mod Answering
 pub mod Fitting
+pub mod Validity
 pub mod Writing
 pub mod Octets
 pub mod Encapsulation

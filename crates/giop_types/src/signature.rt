@@ -2,9 +2,9 @@
 
 ghost use Rattle.std.specs.Prelude.{◌<◌, ◌^◌, IfOk};
 ghost use Rattle.cdr_core.specs.Fitting.{AreValid};
+ghost use Rattle.cdr_core.specs.Validity.{are_valid_prop};
 ghost use Rattle.cdr_core.specs.View as view;
 ghost use Rattle.giop_types.specs.Reading.{Has};
-ghost use Rattle.giop_types.specs.Validity.{are_valid_prop};
 
 use crate::forms::forms_of;
 use crate::shape::Member;

@@ -1,5 +1,5 @@
--- That types are valid is a fact: a type with at most one value. Nobody has to read this proof; it stands here since a field
--- of `Signature` cites it.
+-- That types are valid is a fact: a type with at most one value. Nobody has to read this proof; it stands here since fields of
+-- structs in the crates above cite it.
 use Rattle.std.specs.Prelude.{ℤ}
 use Rattle.std.proofs.Props.{props}
 use mathlib.Core.HLevel.{×_prop}
@@ -7,7 +7,7 @@ use Rattle.cdr_core.specs.Fitting.{AreCases, AreValid, InRange, IsDiscriminator,
 use Rattle.cdr_core.specs.Form as form
 use Rattle.cdr_core.specs.Form.{Form, Forms, Cases, Number}
 
-triple_prop : {A B C : Type 0} → IsProp A → IsProp B → IsProp C → IsProp (A × B × C)
+pub triple_prop : {A B C : Type 0} → IsProp A → IsProp B → IsProp C → IsProp (A × B × C)
 triple_prop a b c x y = λ i. (a x.0 y.0 i, b x.1 y.1 i, c x.2 y.2 i)
 
 four_prop : {A B C D : Type 0} → IsProp A → IsProp B → IsProp C → IsProp D → IsProp (A × B × C × D)
