@@ -13,6 +13,7 @@ import importlib.machinery
 import importlib.util
 import json
 import os
+import pty
 import random
 import shutil
 import signal
@@ -481,6 +482,84 @@ class Ordered(unittest.TestCase):
                              timeout=20, check=False)
         self.assertEqual(run.returncode, 2)
         self.assertIn(b"giop-capture: tshark is missing", run.stderr)
+
+
+# ------------------------------------------------------------------------------------------------- colours
+
+BOLD, FAINT, RED, YELLOW, MAGENTA = (f"\x1b[{n}m" for n in (1, 2, 31, 33, 35))
+END = "\x1b[0m"
+
+
+def said():
+    """What is said on a connection, a message or a gap each, with the colours of its lines."""
+    key = giop.ft_request("A", 1)
+    yield 0, giop.request(1, b"k", "add", contexts=[key]), [BOLD, "", FAINT, FAINT]
+    yield 1, giop.reply(1, giop.system_body("TRANSIENT"), status=2), [MAGENTA]
+    yield 0, giop.request(2, b"k", "add", contexts=[key]), [YELLOW, FAINT, FAINT]
+    yield 0, giop.cancel(2), [YELLOW]
+    yield 1, giop.reply(2), [""]
+    yield 1, giop.reply(9), [RED]
+    yield 0, giop.locate(3, b"k"), [""]
+    yield 1, giop.located(3, 0), [MAGENTA]
+    yield 1, giop.message(trace.ERROR, b""), [RED]
+    yield 1, b"GIOP", [RED]
+
+
+class Coloured(unittest.TestCase):
+    """Lines in colours."""
+
+    @classmethod
+    def setUpClass(cls):
+        cls.giop = programs.program("GIOP")
+        parts = list(said())
+        cls.text = head(0) + "".join(item((0, side, n, START + n, octets), 0) for n, (side, octets, _) in enumerate(parts))
+        cls.tones = [BOLD, *(tone for _, _, tones in parts for tone in tones)]
+
+    def traced(self, *words, **environment):
+        """The lines that are printed to a pipe."""
+        run = subprocess.run([self.giop, "trace", *words], input=self.text.encode(), stdout=subprocess.PIPE, check=False,
+                             timeout=20, env={"TERM": "xterm", **environment})
+        self.assertEqual(run.returncode, 1)
+        return run.stdout.decode()
+
+    def on_terminal(self, *words, **environment):
+        """The same on a terminal."""
+        ours, theirs = pty.openpty()
+        with os.fdopen(ours, "rb", buffering=0) as reader:
+            with os.fdopen(theirs, "wb", buffering=0) as terminal:
+                subprocess.run([self.giop, "trace", *words], input=self.text.encode(), stdout=terminal, check=False,
+                               timeout=20, env={"TERM": "xterm", **environment})
+                terminal.write(b"\0")
+            got = b""
+            while not got.endswith(b"\0"):
+                got += reader.read(65536)
+        return got[:-1].decode().replace("\r\n", "\n")
+
+    def test_lines(self):
+        """Each line has its colour, and is else as without."""
+        plain = self.traced("--color", "never").splitlines()
+        tones = self.tones + [""] * (len(plain) - len(self.tones))
+        wanted = [f"{tone}{line}{END}" if tone else line for tone, line in zip(tones, plain)]
+        self.assertEqual(self.traced("--color", "always").splitlines(), wanted)
+
+    def test_pipe(self):
+        """Where nothing is asked for, what is printed to a pipe has none."""
+        self.assertEqual(self.traced(), self.traced("--color", "never"))
+        self.assertEqual(self.traced("--color", "auto"), self.traced("--color", "never"))
+
+    def test_terminal(self):
+        """On a terminal there are colours, unless the environment asks for none."""
+        plain, coloured = self.traced("--color", "never"), self.traced("--color", "always")
+        self.assertEqual(self.on_terminal(), coloured)
+        self.assertEqual(self.on_terminal(NO_COLOR=""), coloured)
+        self.assertEqual(self.on_terminal(NO_COLOR="1"), plain)
+        self.assertEqual(self.on_terminal(TERM="dumb"), plain)
+        self.assertEqual(self.on_terminal("--color", "never"), plain)
+        self.assertEqual(self.traced("--color", "always", NO_COLOR="1", TERM="dumb"), coloured)
+
+    def test_json(self):
+        """JSON has none."""
+        self.assertEqual(self.traced("--json", "--color", "always"), self.traced("--json"))
 
 
 # ------------------------------------------------------------------------------------------------- a recording

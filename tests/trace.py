@@ -47,6 +47,12 @@ EXCEPTIONS = [
     "TRANSACTION_MODE", "BAD_QOS", "INVALID_ACTIVITY", "ACTIVITY_COMPLETED", "ACTIVITY_REQUIRED", "THREAD_CANCELLED",
 ]
 EPOCH = datetime.datetime(1582, 10, 15)
+# the registry of code sets of the Open Group
+CODE_SETS = {
+    0: "none", 0x00010001: "ISO-8859-1", 0x0001000f: "ISO-8859-15", 0x00010020: "ISO-646", 0x00010100: "UCS-2",
+    0x00010106: "UCS-4", 0x00010109: "UTF-16", 0x00030010: "EUC-JP", 0x05010001: "UTF-8", 0x100204e4: "windows-1252",
+    0x12345678: "0x12345678",
+}
 
 
 class Message:
@@ -56,7 +62,7 @@ class Message:
         self.kind, self.minor, self.order, self.id, self.says = kind, minor, order, request_id, says
 
     def contexts(self):
-        found = [(giop.CODE_SETS, bytes(12))] if self.says.get("codesets") else []
+        found = [(giop.CODE_SETS, self.says["codesets"])] if "codesets" in self.says else []
         return found + ([giop.ft_request(*self.says["ft"], self.order)] if "ft" in self.says else [])
 
     def body(self, out):
@@ -190,7 +196,8 @@ def object_of(message, number, connection, side, end, request, repeat, earlier):
         "octets": len(says.get("body", b"")) if kind in (REQUEST, REPLY, LOCATED) else None,
         "status": status[says["status"]] if status else None,
         "request": request, "later": number - request if request else None, "exception": says.get("exception"),
-        "contexts": [{"id": i, "name": CONTEXTS[i], "octets": o.hex()} for i, o in message.contexts()] if has_contexts else [],
+        "contexts": [{"id": i, "name": CONTEXTS[i], "octets": o.hex(), **meaning(i, o)} for i, o in message.contexts()]
+                    if has_contexts else [],
         "ft": ft, "repeats": repeat,
     }
 
@@ -203,11 +210,28 @@ def exception(order, rng):
     return out.all, {"id": giop.repository_id(name), "name": name, "minor": minor, "completed": ["YES", "NO", "MAYBE"][done]}
 
 
+def code_sets(rng):
+    """The octets of a CodeSets context (IOP 7.10.2.5), now and then too few."""
+    little = rng.random() < 0.5
+    sets = b"".join(rng.choice(list(CODE_SETS)).to_bytes(4, "little" if little else "big") for _ in range(2))
+    return (bytes([little, 0, 0, 0]) + sets)[:rng.choice([12, 12, 12, 11, 4, 0])]
+
+
+def meaning(number, octets):
+    """What a context says that has names: a field, or none."""
+    if number != giop.CODE_SETS:
+        return {}
+    if len(octets) < 12:
+        return {"meaning": "bad"}
+    narrow, wide = (int.from_bytes(octets[n:n + 4], "little" if octets[0] else "big") for n in (4, 8))
+    return {"meaning": f"char {CODE_SETS[narrow]}, wchar {CODE_SETS[wide]}"}
+
+
 def request(rng, minor, order):
     says = {"wish": rng.choice([3, 3, 3, 1, 0] if minor == 2 else [3, 3, 0]),
             "operation": rng.choice([b"add", b"get", b"_is_a"]), "body": bytes(rng.randrange(3) * 8)}
     if rng.random() < 0.2:
-        says["codesets"] = True
+        says["codesets"] = code_sets(rng)
     if rng.random() < 0.3:
         says["ft"] = (rng.choice([b"A", b"B"]), rng.randrange(-1, 2), rng.choice([0, 1 << 56, 200000000000000001, (1 << 64) - 1]))
     return Message(REQUEST, minor, order, rng.randrange(4), **says)
@@ -356,7 +380,7 @@ def lines_of(message, one):
         line += earlier_words(one) + outcome_words(one) + ending
     yield line
     for it in one["contexts"]:
-        yield f"  context {it['id']} {it['octets']} {it['name']}, {len(it['octets']) // 2} octets"
+        yield f"  context {it['id']} {it['octets'] or '-'} {it['name']}, {len(it['octets']) // 2} octets"
     if one["ft"]:
         yield ft_line(one)
 

@@ -163,11 +163,12 @@ class Hostile(unittest.TestCase):
                     self.assertEqual(peer.message().status, giop.NO_EXCEPTION)
                     self.assertEqual(relay.said().count(f'why="{why}"'), lines + 1)
 
-    def test_servers_that_make_no_sense(self):
-        """Before the guard: who waits is told MAYBE, the connection ends with its reason, and others are served."""
+    def servers_make_no_sense(self, *words):
+        """Before a guard with these words: who waits is told MAYBE, the connection ends with its reason, and others are
+        served."""
         counters = Counters()
         with Server() as server, Relay("guard", "--server", f"127.0.0.1:{server.port}", "--store", "memory",
-                                       "--timeout", "2", "--connections", "1", *counters.words) as guard:
+                                       "--timeout", "2", *words, *counters.words) as guard:
             guard.begin()
             for number, (why, octets) in enumerate(OF_SERVERS.items()):
                 with self.subTest(why):
@@ -178,13 +179,22 @@ class Hostile(unittest.TestCase):
                     self.assertIn(f'why="{why}"', guard.said())
                     ask(guard.port, request(2, b"k", "add"), giop.reply(2, number_body(len(server.performed) + 1)))
             # a reply to nobody, and a forward that is none: the connection goes on
-            connections = server.connections
+            ended = [count for count in counters.all().items() if "connections_ended" in count[0] and "server" in count[0]]
             server.once(giop.reply(77, number_body(1)))
             ask(guard.port, request(1, b"k", "add"), system(1, "TIMEOUT", MAYBE))
             self.assertEqual(counters.of("late_total"), 1)
             server.answer = lambda came: giop.reply(came.request_id, b"\xff" * 9, status=giop.LOCATION_FORWARD)
             ask(guard.port, request(1, b"k", "add"), system(1, "IMP_LIMIT", giop.NO))
-            self.assertEqual(server.connections, connections)
+            self.assertEqual([count for count in counters.all().items() if count in ended], ended)
+            return server.connections
+
+    def test_servers_that_make_no_sense(self):
+        """Over one connection to the server, which is opened again for each of them and goes on after the last."""
+        self.assertEqual(self.servers_make_no_sense("--connections", "1"), len(OF_SERVERS) + 1)
+
+    def test_servers_of_each_thread(self):
+        """The same where each thread opens connections of its own."""
+        self.servers_make_no_sense()
 
     def test_guards_that_make_no_sense(self):
         """Before `retry`: each request is sent again, until a guard answers it."""

@@ -4,7 +4,7 @@ use crate::forwards::{Forward, forward_of};
 use crate::lines::put_count;
 use crate::objects::Objects;
 use giop_core::Content;
-use giop_text::{component_name, digits_of, text_of};
+use giop_text::{digits_of, put_component, text_of};
 use ior_core::{Component, IiopProfile, Ior, IorError, Profile, TAG_INTERNET_IOP, read_iiop};
 use std::alloc::{AllocError, Global};
 
@@ -25,13 +25,13 @@ pub(crate) fn put_key(
 }
 
 /// Appends the line of a component of a profile.
-fn put_component(component: &Component, text: &mut String) -> Result<(), AllocError> {
-    let tag = component.tag;
-    match component_name(tag) {
-        Some(name) => write!(text, "    component {name}")?,
-        None => write!(text, "    component {tag}")?,
-    }
-    put_count(&component.octets, text)?;
+fn put_component_line(
+    alloc: Global,
+    component: &Component,
+    text: &mut String,
+) -> Result<(), AllocError> {
+    text.push_str("    ")?;
+    put_component(alloc, component, text)?;
     text.push('\n')
 }
 
@@ -49,7 +49,7 @@ fn put_iiop(
     put_key(alloc, &profile.object_key, objects, text)?;
     text.push('\n')?;
     for component in &profile.components {
-        put_component(component, text)?;
+        put_component_line(alloc, component, text)?;
     }
     Ok(())
 }

@@ -19,7 +19,8 @@ use giop_core::{
 use giop_link::LinkFault;
 use giop_tap::Sender;
 use giop_text::{
-    context_name, digits_of, put_body, put_locate_status, put_reply_status, put_target, text_of,
+    context_meaning, context_name, digits_of, put_body, put_locate_status, put_reply_status,
+    put_target, text_of,
 };
 use std::alloc::{AllocError, Global};
 
@@ -106,6 +107,9 @@ fn put_context(
     if printer.has_bodies {
         text.push(' ')?;
         text.push_str(&digits_of(printer.alloc, octets)?)?;
+    }
+    if let Some(meaning) = context_meaning(printer.alloc, id, octets)? {
+        write!(text, ": {meaning}")?;
     }
     text.push('\n')
 }

@@ -3,7 +3,7 @@
 use crate::forwards::{Forward, forward_of};
 use crate::objects::Objects;
 use giop_core::Content;
-use giop_text::{component_name, text_of};
+use giop_text::{component_meaning, component_name, text_of};
 use ior_core::{Component, Ior, IorError, Profile, TAG_INTERNET_IOP, read_iiop};
 use serde::Serialize;
 use std::alloc::{AllocError, Global};
@@ -14,6 +14,8 @@ struct ComponentObject {
     tag: u32,
     name: Option<&'static str>,
     octets: String,
+    #[serde(skip_serializing_if = "Option::is_none")]
+    meaning: Option<String>,
 }
 
 /// A profile of a reference. Of one of IIOP that is valid all is known but its octets.
@@ -48,6 +50,7 @@ fn component_objects(
             tag: component.tag,
             name: component_name(component.tag),
             octets: hex::encode(alloc, &component.octets)?,
+            meaning: component_meaning(alloc, component.tag, &component.octets)?,
         })?;
     }
     Ok(objects)

@@ -3,7 +3,8 @@
 use crate::moments::time_of;
 use giop_core::{Body, Contexts, FtField, Target};
 use giop_text::{
-    completion_name, context_name, exception_id, exception_name, system_exception, text_of,
+    completion_name, context_meaning, context_name, exception_id, exception_name, system_exception,
+    text_of,
 };
 use serde::Serialize;
 use std::alloc::{AllocError, Global};
@@ -14,6 +15,8 @@ pub(crate) struct ContextObject {
     id: u32,
     name: Option<&'static str>,
     octets: String,
+    #[serde(skip_serializing_if = "Option::is_none")]
+    meaning: Option<String>,
 }
 
 /// What a request's FT_REQUEST context says.
@@ -53,6 +56,7 @@ fn context_object(alloc: Global, id: u32, octets: &[u8]) -> Result<ContextObject
         id,
         name: context_name(id),
         octets: hex::encode(alloc, octets)?,
+        meaning: context_meaning(alloc, id, octets)?,
     })
 }
 

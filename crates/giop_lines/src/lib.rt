@@ -8,6 +8,7 @@
 mod caught;
 mod caught_forwards;
 mod caught_lines;
+mod colours;
 mod counts;
 mod end_lines;
 mod forwards;

@@ -1,6 +1,7 @@
 //! The lines of a trace, for a person or as JSON.
 
 use crate::caught::{Caught, Stamp};
+use crate::colours::{Tone, coloured, tone_of};
 use crate::counts::Counts;
 use crate::left::Left;
 use crate::looks::Looks;
@@ -81,9 +82,19 @@ pub struct Printer {
     pub has_bodies: bool,
     /// Of such a capture: whether times are those of the day in UTC, and not since the beginning.
     pub is_clock: bool,
+    /// Whether lines that a person reads have colours.
+    pub is_coloured: bool,
 }
 
 impl Printer {
+    /// A text in the colour of its tone, where lines have colours.
+    fn in_colour(&self, tone: Tone, text: String) -> Result<String, AllocError> {
+        match self.format {
+            Format::Lines if self.is_coloured => coloured(self.alloc, tone, &text),
+            _ => Ok(text),
+        }
+    }
+
     /// What stands before all lines of a capture that tells times.
     pub fn head(&self) -> Result<String, AllocError> {
         let mut text = String::new(self.alloc);
@@ -107,7 +118,7 @@ impl Printer {
                 self.alloc, connection, ends, stamp, &mut text,
             )?,
         }
-        Ok(text)
+        self.in_colour(Tone::Frame, text)
     }
 
     /// The lines of a message. `objects` has the letters of object keys.
@@ -118,6 +129,7 @@ impl Printer {
         objects: &mut Objects,
     ) -> Result<String, AllocError> {
         let mut text = String::with_capacity(self.alloc, USUAL)?;
+        let tone = tone_of(&shown);
         match (self.format, caught) {
             (Format::Lines, None) => lines::put_message(self.alloc, shown, &mut text)?,
             (Format::Lines, Some(caught)) => {
@@ -125,7 +137,7 @@ impl Printer {
             }
             (Format::Json, _) => json::put_message(self, shown, caught, objects, &mut text)?,
         }
-        Ok(text)
+        self.in_colour(tone, text)
     }
 
     /// The line of a fault.
@@ -147,7 +159,7 @@ impl Printer {
                 reports::put_fault(self.alloc, spot, at, fault, looks, &mut text)?
             }
         }
-        Ok(text)
+        self.in_colour(Tone::Fault, text)
     }
 
     /// The line of octets that were passed over.
@@ -166,7 +178,7 @@ impl Printer {
             }
             (Format::Json, _) => reports::put_missing(self.alloc, spot, octets, &mut text)?,
         }
-        Ok(text)
+        self.in_colour(Tone::Fault, text)
     }
 
     /// The line of a side that closed its connection.
@@ -181,7 +193,11 @@ impl Printer {
             (Format::Lines, None) => {}
             (Format::Json, _) => reports::put_closed(self.alloc, spot, name, &mut text)?,
         }
-        Ok(text)
+        let tone = match closing {
+            Closing::Fin => Tone::Frame,
+            Closing::Reset => Tone::Fault,
+        };
+        self.in_colour(tone, text)
     }
 
     /// The line of what is left of a side, if something is.
@@ -194,7 +210,7 @@ impl Printer {
             }
             (Format::Json, _) => reports::put_left(self.alloc, spot, left, &mut text)?,
         }
-        Ok(text)
+        self.in_colour(Tone::Fault, text)
     }
 
     /// The lines of a summary.

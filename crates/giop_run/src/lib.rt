@@ -10,6 +10,7 @@ mod host;
 mod input;
 mod journal;
 mod logging;
+mod naming;
 mod owner;
 mod play;
 mod program;
@@ -21,6 +22,7 @@ mod stepping;
 mod steps;
 mod stop;
 mod stream;
+mod url;
 
 // what the program is asked for, and all of it over a reader and writers
 pub use hint::Hint;
@@ -28,9 +30,9 @@ pub use input::read_octets;
 pub use program::{Streams, run};
 pub use script::{ScriptError, read_script};
 pub use setting::{
-    CAPACITY, DONE, EnginePlay, FAILED, Form, Input, JOINED, LEAST_LIMIT, LIMIT, MOST_CONNECTIONS,
-    MOST_LIMIT, MOST_OUTCOMES, MOST_PARTIALS, MOST_PLACES, Numbers, PARKED, PARTIALS, REFUSED,
-    START, Service, Task,
+    CAPACITY, DONE, EnginePlay, FAILED, Form, Input, IorShow, JOINED, LEAST_LIMIT, LIMIT,
+    MOST_CONNECTIONS, MOST_LIMIT, MOST_OUTCOMES, MOST_PARTIALS, MOST_PLACES, Numbers, PARKED,
+    PARTIALS, REFUSED, START, Service, Task,
 };
 pub use stop::Stop;
 

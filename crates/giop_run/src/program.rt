@@ -7,17 +7,18 @@ ghost use Rattle.giop_run.specs.Settings.{AreInRange, HasFile, IsInRange};
 use crate::hint::{Hint, hint_of};
 use crate::host::Host;
 use crate::input::{read_input, read_octets};
+use crate::naming::named_lines;
 use crate::play::{Terms, play_events};
 use crate::reference::reference_lines;
 use crate::script::read_script;
-use crate::setting::{DONE, EnginePlay, FAILED, Form, Input, Numbers, REFUSED, Task};
+use crate::setting::{DONE, EnginePlay, FAILED, Form, Input, IorShow, Numbers, REFUSED, Task};
 use crate::stepping::print_play;
 use crate::steps::read_steps;
 use crate::stop::Stop;
 use crate::stream::{Detail, show_octets, show_stream};
+use crate::url::reference_in;
 use ft_orb::{Event, Note, Places, Written};
 use giop_frames::Limits;
-use ior_core::parse_text;
 use std::alloc::Global;
 use std::hash::RandomState;
 use std::io::{BufWriter, Read, Write};
@@ -118,9 +119,17 @@ fn share_in(capacity: u32, share: Option<u32>) -> Option<u32>
 }
 
 /// Prints the lines of the reference that a text is.
-fn print_reference<W: Write>(alloc: Global, text: &str, out: &mut W) -> Result<(), Stop> {
-    let ior = parse_text(alloc, text)?;
-    let lines = reference_lines(alloc, &ior)?;
+fn print_reference<W: Write>(
+    alloc: Global,
+    text: &str,
+    has_names: bool,
+    out: &mut W,
+) -> Result<(), Stop> {
+    let ior = reference_in(alloc, text)?;
+    let lines = match has_names {
+        true => named_lines(alloc, &ior)?,
+        false => reference_lines(alloc, &ior)?,
+    };
     out.write_all(lines.as_bytes())?;
     out.flush()?;
     Ok(())
@@ -131,20 +140,21 @@ fn without_end(text: &str) -> &str {
     text.trim_end_matches(['\r', '\n'])
 }
 
-/// Shows the reference that a text is, or the text on standard input.
+/// Shows a reference.
 fn show_reference<R: Read, W: Write, E: Write>(
     alloc: Global,
-    text: Option<&str>,
+    reference: &IorShow,
     streams: &mut Streams<'_, R, W, E>,
 ) -> Result<bool, Stop> {
-    match text {
-        Some(text) => print_reference(alloc, without_end(text), streams.out)?,
+    let has_names = reference.has_names;
+    match reference.text {
+        Some(text) => print_reference(alloc, without_end(text), has_names, streams.out)?,
         None => {
             let octets = read_input(alloc, streams.input)?;
             let Ok(text) = str::from_utf8(&octets) else {
                 return Err(Stop::Unreadable);
             };
-            print_reference(alloc, without_end(text), streams.out)?
+            print_reference(alloc, without_end(text), has_names, streams.out)?
         }
     }
     Ok(true)
@@ -258,7 +268,7 @@ fn perform<F: Files, R: Read, W: Write, E: Write>(
     match task {
         Task::Play(numbers) => End::plain(play_input(alloc, *numbers, hasher, streams)),
         Task::Engine(play) => End::plain(play_input_on_engine(alloc, play, hasher, streams)),
-        Task::Ior(text) => End::plain(show_reference(alloc, *text, streams)),
+        Task::Ior(reference) => End::plain(show_reference(alloc, reference, streams)),
         Task::Show(input) => show_input(alloc, rt, input, Detail::Messages, streams),
         Task::Check(input) => show_input(alloc, rt, input, Detail::EndAlone, streams),
     }

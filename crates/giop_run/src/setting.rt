@@ -115,6 +115,15 @@ pub struct Input<'a> {
     pub form: Form,
 }
 
+/// A reference that is shown.
+#[derive(Clone, Copy, Debug, PartialEq, Eq)]
+pub struct IorShow<'a> {
+    /// Its text; without one it is that on standard input.
+    pub text: Option<&'a str>,
+    /// Whether it is shown to a person, with names.
+    pub has_names: bool,
+}
+
 /// What is done over a reader and two writers.
 #[derive(Clone, Copy, Debug, PartialEq, Eq)]
 pub enum Task<'a> {
@@ -126,8 +135,8 @@ pub enum Task<'a> {
     Show(Input<'a>),
     /// Tell how a stream ends.
     Check(Input<'a>),
-    /// Show the reference that the text is; without one, the text on standard input.
-    Ior(Option<&'a str>),
+    /// Show a reference.
+    Ior(IorShow<'a>),
 }
 
 impl Task<'_> {
@@ -157,7 +166,7 @@ impl Task<'_> {
         match self {
             Task::Show(input) | Task::Check(input) => input.file.is_none(),
             Task::Play(_) | Task::Engine(_) => true,
-            Task::Ior(text) => text.is_none(),
+            Task::Ior(reference) => reference.text.is_none(),
         }
     }
 }

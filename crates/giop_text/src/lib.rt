@@ -6,6 +6,7 @@
 
 mod captures;
 mod exceptions;
+mod meanings;
 mod messages;
 mod names;
 mod text;
@@ -21,7 +22,10 @@ pub use messages::{
 
 // exceptions in the bodies of replies, and names
 pub use exceptions::{SystemException, exception_id, system_exception};
-pub use names::{completion_name, component_name, context_name, exception_name};
+pub use names::{completion_name, component_name, context_name, exception_name, profile_name};
+
+// what the octets say that the standard has names for
+pub use meanings::{code_set_name, component_meaning, context_meaning, put_component};
 
 // what is no message
 pub use captures::is_capture;

@@ -127,3 +127,16 @@ pub fn component_name(tag: u32) -> Option<&'static str> {
     };
     Some(name)
 }
+
+/// The name of the tag of a profile (IOP 7.6.4).
+pub fn profile_name(tag: u32) -> Option<&'static str> {
+    let name = match tag {
+        0 => "INTERNET_IOP",
+        1 => "MULTIPLE_COMPONENTS",
+        2 => "SCCP_IOP",
+        3 => "UIPMC",
+        4 => "MOBILE_TERMINAL_IOP",
+        _ => return None,
+    };
+    Some(name)
+}

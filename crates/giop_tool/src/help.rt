@@ -59,6 +59,9 @@ pub(crate) const TYPES: &str = "Prints arguments and results by the table of typ
 
 pub(crate) const CLOCK: &str = "Of packets prints the time of UTC, and not that since the first";
 
+pub(crate) const COLOR: &str =
+    "When lines have colours: auto is on a terminal, unless NO_COLOR is set or TERM is dumb [default: auto]";
+
 pub(crate) const OPERATION: &str =
     "Only requests of this operation, and what answers or cancels them";
 
@@ -86,7 +89,11 @@ pub(crate) const ENGINE: &str =
 
 pub(crate) const ASKS: &str = "Prints a line for each request that the engine asks for";
 
-pub(crate) const TEXT: &str = "IOR: and hexadecimal digits, or - for standard input [default: -]";
+pub(crate) const TEXT: &str =
+    "IOR: and hexadecimal digits, or a URL corbaloc:, or - for standard input [default: -]";
+
+pub(crate) const NAMES: &str =
+    "Shows it to a person: names of components, and the code sets, ORB and addresses in them";
 
 /// What the help of `giop play` says after its options.
 pub(crate) const PLAY: &str =

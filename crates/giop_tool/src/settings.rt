@@ -8,14 +8,14 @@ use crate::help::Texts;
 use crate::options::{
     flag, with_choice, with_engine, with_number, with_numbers, with_required, word_option,
 };
-use crate::tracing::Tracing;
+use crate::tracing::{Colouring, Tracing};
 use clap::builder::ValueParser;
 use clap::error::ErrorKind;
 use clap::{Arg, ArgAction, ArgMatches, Command};
 use giop_lines::Format;
 use giop_run::{
-    CAPACITY, EnginePlay, Form, Input, JOINED, LIMIT, MOST_CONNECTIONS, Numbers, PARKED, PARTIALS,
-    START, Service, Task,
+    CAPACITY, EnginePlay, Form, Input, IorShow, JOINED, LIMIT, MOST_CONNECTIONS, Numbers, PARKED,
+    PARTIALS, START, Service, Task,
 };
 use giop_trace::{Choice, KEYS, Options};
 use std::alloc::{AllocError, Global};
@@ -91,13 +91,19 @@ fn check_command<'a>(alloc: Global, texts: &'a Texts) -> Result<Command<'a>, All
     stream_command(alloc, "check", help::CHECKS, &texts.check)
 }
 
+/// When lines may have colours.
+const WHENS: &[&str] = &["auto", "always", "never"];
+
 /// `giop trace [FILE]`.
 fn trace_command<'a>(alloc: Global, texts: &'a Texts) -> Result<Command<'a>, AllocError> {
     let command = stream_command(alloc, "trace", help::TRACES, help::TRACE)?
         .arg(flag(alloc, "resume", help::RESUME))?
         .arg(flag(alloc, "json", help::JSON))?
         .arg(flag(alloc, "bodies", help::BODIES))?
-        .arg(flag(alloc, "clock", help::CLOCK))?;
+        .arg(flag(alloc, "clock", help::CLOCK))?
+        .arg(word_option(alloc, "color", "WHEN", help::COLOR).value_parser(ValueParser::from(
+            WHENS,
+        )))?;
     let keys = ValueParser::unsigned(1, u64::from(u32::MAX));
     let command = with_number(alloc, command, "keys", &texts.keys, keys)?.arg(word_option(
         alloc,
@@ -116,7 +122,8 @@ fn ior_command<'a>(alloc: Global) -> Result<Command<'a>, AllocError> {
     Command::new(alloc, "ior")
         .about(help::IORS)
         .after_help(help::IOR)
-        .arg(text)
+        .arg(text)?
+        .arg(flag(alloc, "names", help::NAMES))
 }
 
 /// `giop serve`.
@@ -207,7 +214,7 @@ fn service_of(words: &ArgMatches) -> Service {
     }
 }
 
-/// The name of standard input where a file may stand.
+/// The name of standard input where a file or a text may stand.
 const STANDARD: &str = "-";
 
 /// The input that the words of a subcommand that reads a stream ask for.
@@ -235,16 +242,16 @@ fn task_of<'a>(matches: &ArgMatches<'a>) -> Task<'a> {
         return play_of(words);
     }
     match matches.subcommand_matches("ior") {
-        Some(words) => Task::Ior(text_of(words)),
+        Some(words) => Task::Ior(ior_of(words)),
         None => Task::Play(USUAL),
     }
 }
 
-/// The text of a reference; without one, or for `-`, it stands on standard input.
-fn text_of<'a>(words: &ArgMatches<'a>) -> Option<&'a str> {
-    match words.get_str("TEXT") {
-        Some("-") | None => None,
-        text => text,
+/// The reference that the words of `giop ior` ask for; without a text, or for `-`, it stands on standard input.
+fn ior_of<'a>(words: &ArgMatches<'a>) -> IorShow<'a> {
+    IorShow {
+        text: words.get_str("TEXT").filter(|text| *text != STANDARD),
+        has_names: words.get_flag("names"),
     }
 }
 
@@ -265,12 +272,22 @@ fn choice_of<'a>(words: &ArgMatches<'a>) -> Choice<'a> {
     }
 }
 
+/// When the words of `giop trace` ask for colours.
+fn colouring_of(words: &ArgMatches) -> Colouring {
+    match words.get_str("color") {
+        Some("always") => Colouring::Always,
+        Some("never") => Colouring::Never,
+        _ => Colouring::Terminal,
+    }
+}
+
 /// The trace that the words of `giop trace` ask for.
 fn tracing_of<'a>(words: &ArgMatches<'a>) -> Tracing<'a> {
     let input = input_of(words);
     Tracing {
         input,
         types: words.get_str("types"),
+        colouring: colouring_of(words),
         options: Options {
             is_raw: input.form == Form::Raw,
             resumes: words.get_flag("resume"),
@@ -281,6 +298,8 @@ fn tracing_of<'a>(words: &ArgMatches<'a>) -> Tracing<'a> {
             },
             has_bodies: words.get_flag("bodies"),
             is_clock: words.get_flag("clock"),
+            // (a terminal is looked for where it is run)
+            is_coloured: false,
             choice: choice_of(words),
             is_summary: words.get_flag("summary"),
             keys: words.get_one::<u32>("keys").unwrap_or(KEYS),

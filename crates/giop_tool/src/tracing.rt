@@ -3,8 +3,43 @@
 use giop_run::{DONE, FAILED, Hint, Input, REFUSED};
 use giop_trace::{Failure, Options, Stop, trace};
 use giop_types::{Table, TypesError};
+use std::env::VarError;
 use std::io::IsTerminal;
-use std::{fs, io};
+use std::{env, fs, io};
+
+/// When lines have colours.
+#[derive(Clone, Copy, Debug, PartialEq, Eq)]
+pub(crate) enum Colouring {
+    /// Where they are printed on a terminal that has colours, unless the environment asks for none.
+    Terminal,
+    Always,
+    Never,
+}
+
+/// Whether a variable of the environment is there, and not empty.
+fn is_set(rt: &HostRuntime, name: &str) -> bool {
+    match env::var(rt, name) {
+        Ok(value) => !value.is_empty(),
+        Err(VarError::NotUnicode) => true,
+        Err(_) => false,
+    }
+}
+
+/// Whether the terminal is one without colours.
+fn is_dumb(rt: &HostRuntime) -> bool {
+    matches!(env::var(rt, "TERM"), Ok(name) if name.as_str() == "dumb")
+}
+
+/// Whether lines on standard output have colours (no-color.org: a NO_COLOR that is not empty asks for none).
+fn is_coloured(rt: &HostRuntime, colouring: Colouring) -> bool {
+    match colouring {
+        Colouring::Always => true,
+        Colouring::Never => false,
+        Colouring::Terminal => {
+            rt.stdout().is_terminal() && !is_set(rt, "NO_COLOR") && !is_dumb(rt)
+        }
+    }
+}
 
 /// What is asked of a trace, and of which input.
 #[derive(Clone, Copy, Debug, PartialEq, Eq)]
@@ -12,6 +47,7 @@ pub(crate) struct Tracing<'a> {
     pub(crate) input: Input<'a>,
     /// The file of a table of types.
     pub(crate) types: Option<&'a str>,
+    pub(crate) colouring: Colouring,
     pub(crate) options: Options<'a>,
 }
 
@@ -88,8 +124,10 @@ pub(crate) fn run_trace(rt: &HostRuntime, tracing: &Tracing) -> u8 {
         Err(status) => return status,
     };
     let _ = print_waiting(rt, &tracing.input);
+    let mut options = tracing.options;
+    options.is_coloured = is_coloured(rt, tracing.colouring);
     match tracing.input.file {
-        Some(name) => trace_file(rt, &tracing.options, types, name),
-        None => trace_input(rt, &tracing.options, types),
+        Some(name) => trace_file(rt, &options, types, name),
+        None => trace_input(rt, &options, types),
     }
 }

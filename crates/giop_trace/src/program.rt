@@ -27,6 +27,8 @@ pub struct Options<'a> {
     pub has_bodies: bool,
     /// Whether times are those of the day.
     pub is_clock: bool,
+    /// Whether lines have colours.
+    pub is_coloured: bool,
     /// Which messages are printed.
     pub choice: Choice<'a>,
     /// Whether counts of calls are printed, and no messages.
@@ -148,6 +150,7 @@ fn teller_of(alloc: Global, options: &Options, types: Table) -> Result<Teller, A
         format: options.format,
         has_bodies: options.has_bodies,
         is_clock: options.is_clock,
+        is_coloured: options.is_coloured,
     };
     let chooser = Chooser::new(alloc, &options.choice)?;
     Ok(Teller::new(alloc, printer, chooser, types, options.is_summary))

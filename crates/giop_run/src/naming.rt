@@ -1,0 +1,56 @@
+//! The lines that show a reference to a person: with the standard's names, and what its octets say.
+
+use giop_text::{digits_of, profile_name, put_component, text_of};
+use ior_core::{IiopProfile, Ior, IorError, Profile, TAG_INTERNET_IOP, read_iiop};
+use std::alloc::{AllocError, Global};
+
+/// Appends the lines of an IIOP profile.
+fn put_iiop(alloc: Global, profile: &IiopProfile, text: &mut String) -> Result<(), AllocError> {
+    let minor = profile.minor;
+    let host = text_of(alloc, &profile.host)?;
+    let port = profile.port;
+    let digits = digits_of(alloc, &profile.object_key)?;
+    let key = text_of(alloc, &profile.object_key)?;
+    write!(text, "iiop 1.{minor} {host}:{port} key {digits} {key}\n")?;
+    for component in &profile.components {
+        text.push_str("  ")?;
+        put_component(alloc, component, text)?;
+        text.push('\n')?;
+    }
+    Ok(())
+}
+
+/// Appends the line of a profile that is none of IIOP.
+fn put_other(profile: &Profile, text: &mut String) -> Result<(), AllocError> {
+    let tag = profile.tag;
+    let count = profile.octets.len();
+    match profile_name(tag) {
+        Some(name) => write!(text, "profile {name}, {count} octets\n"),
+        None => write!(text, "profile {tag}, {count} octets\n"),
+    }
+}
+
+/// Appends the lines of a profile.
+fn put_profile(alloc: Global, profile: &Profile, text: &mut String) -> Result<(), AllocError> {
+    if profile.tag != TAG_INTERNET_IOP {
+        return put_other(profile, text);
+    }
+    match read_iiop(alloc, &profile.octets) {
+        Ok(iiop) => put_iiop(alloc, &iiop, text),
+        Err(IorError::Memory) => Err(AllocError),
+        Err(_) => text.push_str("iiop bad\n"),
+    }
+}
+
+/// The lines that show a reference to a person: `nil`, or its type, and its addresses with their components.
+pub(crate) fn named_lines(alloc: Global, ior: &Ior) -> Result<String, AllocError> {
+    if ior.type_id.is_empty() && ior.profiles.is_empty() {
+        return String::from_str(alloc, "nil\n");
+    }
+    let type_id = text_of(alloc, &ior.type_id)?;
+    let mut text = format!(in alloc; "type {type_id}\n")?;
+    for profile in &ior.profiles {
+        put_profile(alloc, profile, &mut text)?;
+    }
+    Ok(text)
+}
