@@ -712,6 +712,19 @@ class Pictures(unittest.TestCase):
                          ["line", "line", "lost", "cross", "sent", "sent head", "sent", "sent head"])
 
     @programs.needs("tshark")
+    def test_words(self):
+        """Options stand before the file or behind it, and what is neither is refused."""
+        self.retried()
+        path, words = os.path.join(self.folder, "made.pcap"), ["--operation", "add", "--client", "A", "--color", "always"]
+        run = self.capture(*words)
+        self.assertIn(b"operation add", run.stdout)
+        before = base.ran(os.path.join(self.folder, "giop-capture"), *words, path)
+        self.assertEqual((before.returncode, before.stdout), (run.returncode, run.stdout))
+        for wrong in (["more.pcap"], ["-i", "lo"]):
+            run = self.capture(*wrong)
+            self.assertEqual((run.returncode, run.stdout), (2, b""))
+
+    @programs.needs("tshark")
     def test_none(self):
         """A number that no request has is refused, and no picture is written."""
         self.retried()
