@@ -42,13 +42,17 @@ fn put_profile(alloc: Global, profile: &Profile, text: &mut String) -> Result<()
     }
 }
 
-/// The lines that show a reference to a person: `nil`, or its type, and its addresses with their components.
+/// The lines that show a reference to a person: `nil`, or its type, where it has one, and its addresses with their
+/// components.
 pub(crate) fn named_lines(alloc: Global, ior: &Ior) -> Result<String, AllocError> {
     if ior.type_id.is_empty() && ior.profiles.is_empty() {
         return String::from_str(alloc, "nil\n");
     }
-    let type_id = text_of(alloc, &ior.type_id)?;
-    let mut text = format!(in alloc; "type {type_id}\n")?;
+    let mut text = String::new(alloc);
+    if !ior.type_id.is_empty() {
+        let type_id = text_of(alloc, &ior.type_id)?;
+        write!(text, "type {type_id}\n")?;
+    }
     for profile in &ior.profiles {
         put_profile(alloc, profile, &mut text)?;
     }

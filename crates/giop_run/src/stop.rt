@@ -1,6 +1,7 @@
 //! Why the program ends before its work is done.
 
 use crate::script::ScriptError;
+use corbaloc::LocationError;
 use ft_orb::PlayError;
 use ior_core::IorError;
 use std::alloc::{AllocError, AllocFailed};
@@ -35,6 +36,12 @@ pub enum Stop {
     /// The text is no reference.
     #[error("ior: {0}")]
     BadText(IorError),
+    /// The text is no URL of a location.
+    #[error("ior: {0}")]
+    BadUrl(LocationError),
+    /// The URL has more addresses than are shown.
+    #[error("ior: more than 64 addresses")]
+    ManyAddresses,
     /// The input has an odd number of digits.
     #[error("input: odd digits")]
     OddDigits,
@@ -90,6 +97,16 @@ impl From<IorError> for Stop {
         match error {
             IorError::Memory => Stop::Memory,
             error => Stop::BadText(error),
+        }
+    }
+}
+
+/// A URL isn't bad where an allocation failed.
+impl From<LocationError> for Stop {
+    fn from(error: LocationError) -> Stop {
+        match error {
+            LocationError::Memory => Stop::Memory,
+            error => Stop::BadUrl(error),
         }
     }
 }

@@ -201,8 +201,10 @@ Example:
   $ giop ior IOR:000000000000000a49444c3a413a312e30000000000000010000000000000011000100000000000268000af90000000163
   type IDL:A:1.0
   profile 0 iiop 1.0 host h port 2809 key 63
+  $ giop ior --names corbaloc::1.2@example.org/NameService
+  iiop 1.2 example.org:2809 key 4e616d6553657276696365 NameService
 
-Exit status: 0 where TEXT is a reference, else 1";
+Exit status: 0 where TEXT is a reference or such a URL, else 1";
 
 /// What the help of `giop serve` says after its options.
 pub(crate) const SERVE: &str =
