@@ -69,6 +69,8 @@ CALLS = {
     "read_ior": "place digits",
     "is_writable_ior": "reference",
     "parse_text": "text",
+    "parse_location": "octets",
+    "reference_of": "octets",
     "object_key": "word reference",
     "is_writable_iiop": "profile",
     "profile_key": "word digits",
@@ -250,7 +252,8 @@ def argument(block, kind, rest):
         return f"{word} {at}", after
     if kind == "word":
         return word, after
-    whole = {"types": idl.types, "values": idl.values, "text": text_of, "digits": digits_of}[kind]
+    whole = {"types": idl.types, "values": idl.values, "text": text_of, "digits": digits_of,
+             "octets": lambda octets: octets_of(octets).hex()}[kind]
     return whole(rest), ""
 
 

@@ -25,9 +25,9 @@ from tests import base, programs
 
 # what is about the programs of `rt ci`, and about the library for C
 OF_PROGRAMS = [
-    "tests.cases", "tests.rows", "tests.readings", "tests.inputs", "tests.made_pages", "tests.trace", "tests.typed",
-    "tests.captures", "tests.serve", "tests.schedules", "tests.engine", "tests.deeds", "tests.compare_server",
-    "tests.echo", "tests.bounded_allocations", "tests.refused_allocations",
+    "tests.cases", "tests.rows", "tests.readings", "tests.locations", "tests.inputs", "tests.made_pages", "tests.trace",
+    "tests.typed", "tests.captures", "tests.serve", "tests.schedules", "tests.engine", "tests.deeds",
+    "tests.compare_server", "tests.echo", "tests.bounded_allocations", "tests.refused_allocations",
 ]
 OF_LIBRARY = [
     "tests.embedding", "tests.embed.deeds_test", "tests.embed.first_programs", "tests.embed.python_test",

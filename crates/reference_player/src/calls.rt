@@ -1,8 +1,8 @@
-//! The calls of `ior_core` and `giop_core` by their names, each with what it takes at its function. TYPES are words as
+//! The calls of `ior_core`, `corbaloc` and `giop_core` by their names, each with what it takes at its function. TYPES are words as
 //! `trials` says, ORDER is `big` or `little`, AT the place of the first octet, in decimal digits, and HEX are octets in
 //! hexadecimal digits, which may be none.
 
-use crate::{messages, profiles, references, tagged};
+use crate::{locations, messages, profiles, references, tagged};
 use std::alloc::Global;
 use std::io::Write;
 use trials::{Calls, Stop};
@@ -18,7 +18,7 @@ fn message_call<W: Write>(alloc: Global, call: &str, words: &str, out: &mut W) -
     }
 }
 
-/// The calls of `ior_core` and `giop_core`.
+/// The calls of `ior_core`, `corbaloc` and `giop_core`.
 pub(crate) struct OfReferences;
 
 impl Calls for OfReferences {
@@ -42,6 +42,8 @@ impl Calls for OfReferences {
             "iiop_key" => profiles::find_key(alloc, words, out),
             "profile_key" => profiles::find_tagged_key(alloc, words, out),
             "read_tagged" => tagged::read(alloc, words, out),
+            "parse_location" => locations::parse(alloc, words, out),
+            "reference_of" => locations::reference(alloc, words, out),
             _ => message_call(alloc, call, words, out),
         }
     }

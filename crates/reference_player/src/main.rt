@@ -1,10 +1,11 @@
-//! The program `reference_player`: makes the calls of `ior_core` and `giop_core` that the lines of its input ask for, on
-//! octets and references that stand there, and prints what each gives.
+//! The program `reference_player`: makes the calls of `ior_core`, `corbaloc` and `giop_core` that the lines of its
+//! input ask for, on octets, texts and references that stand there, and prints what each gives.
 //!
 //! tests/readings.py runs it on the rows of tests/readings, tests/bounded_allocations.py on hostile octets.
 #![tactic(auto)]
 
 mod calls;
+mod locations;
 mod messages;
 mod profiles;
 mod references;
