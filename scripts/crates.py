@@ -27,6 +27,7 @@ SECONDS = {
     "ft_lives": 95,
     "ft_tcp": 48,
     "lemonrudder": 635,
+    "digits": 60,
     "counter": 40,
     "giop_text": 86,
     "giop_types": 165,

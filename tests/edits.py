@@ -33,8 +33,8 @@ ROOT = os.path.dirname(os.path.dirname(os.path.abspath(__file__)))
 MOST = 70
 # the libraries: each of their public calls has a wrong body, or a word why not
 LIBRARIES = ("cdr_core", "ior_core", "corbaloc", "giop_core", "giop_frames", "giop_link", "ft_log", "ft_client",
-             "ft_objects", "ft_orb", "ft_ends", "ft_lives", "ft_tcp", "counter", "giop_text", "giop_types",
-             "giop_run", "giop_tap", "giop_lines", "giop_trace", "lemonrudder", "uses")
+             "ft_objects", "ft_orb", "ft_ends", "ft_lives", "ft_tcp", "digits", "counter", "giop_text",
+             "giop_types", "giop_run", "giop_tap", "giop_lines", "giop_trace", "lemonrudder", "uses")
 
 
 class Pair(NamedTuple):

@@ -1,0 +1,4 @@
+pub mod Decoding
+pub mod Blocks
+pub mod Runs
+pub mod DigitValues
