@@ -1,5 +1,3 @@
-pub mod Decoding
-pub mod DigitValues
 pub mod Lines
 pub mod Endings
 pub mod Printing

@@ -1,7 +1,6 @@
 -- What the program promises, in the order in which to read it.
 
--- `giop show` and `giop check`: the octets of the input, the lines of its messages, and how a stream ends
-pub mod Digits
+-- `giop show` and `giop check`: the lines of a stream's messages, and how it ends
 pub mod StreamLines
 pub mod StreamEnds
 -- `giop ior`

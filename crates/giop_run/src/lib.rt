@@ -4,7 +4,6 @@
 //! written on each connection. And it serves the counter over TCP.
 #![tactic(auto)]
 
-mod digits;
 mod hint;
 mod host;
 mod input;

@@ -3,6 +3,7 @@
 ghost use Rattle.std.specs.Prelude.{IfErr};
 ghost use Rattle.giop_run.specs.Script.{CountsFromOne};
 
+use digits::decode;
 use ft_orb::Event;
 use hex::FromHexError;
 use std::alloc::{AllocError, Global};
@@ -36,7 +37,7 @@ fn octets_in(alloc: Global, word: &str) -> Result<Vec<u8>, EventError> {
     if word.is_empty() {
         return Err(EventError::Bad);
     }
-    match hex::decode(alloc, word) {
+    match decode(alloc, word.as_bytes()) {
         Ok(octets) => Ok(octets),
         Err(FromHexError::OutOfMemory) => Err(EventError::Memory),
         Err(_) => Err(EventError::Bad),

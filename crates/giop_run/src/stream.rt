@@ -5,15 +5,15 @@ ghost use Rattle.std.specs.Io.KnownBytes.{Appends};
 ghost use Rattle.giop_core.specs.Lent.{content_of};
 ghost use Rattle.giop_frames.specs.declared.fault.StreamFault.TheVariants.{Memory};
 ghost use Rattle.giop_run.specs.declared.stream.Ending.TheVariants.{Fault};
-ghost use Rattle.giop_run.specs.Digits.{octets_in};
+ghost use Rattle.digits.specs.Digits.{octets_in};
 ghost use Rattle.giop_text.specs.MessageLines.{message_lines};
 ghost use Rattle.giop_run.specs.Private as private;
 ghost use Rattle.giop_run.specs.Private.{printed};
 ghost use Rattle.giop_run.specs.StreamEnds.{EndsWell, IsSummary};
 ghost use Rattle.giop_run.specs.StreamLines.{stream_lines};
 
-use crate::digits::{DigitError, octets_of, place_of_bad};
 use crate::stop::Stop;
+use digits::{DigitError, octets_of, place_of_bad};
 use giop_core::Message;
 use giop_frames::{Assembler, Limits, StreamFault};
 use giop_text::put_message;

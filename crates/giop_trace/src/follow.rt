@@ -5,6 +5,7 @@ ghost use Rattle.giop_trace.specs.Following as follow;
 ghost use Rattle.hex.specs.Hex.{decode_of};
 ghost use Rattle.giop_trace.specs.Private.{line_seen};
 
+use digits::decode;
 use giop_tap::Sender;
 use hex::FromHexError;
 use std::alloc::Global;
@@ -58,7 +59,7 @@ fn refusal(digits: &[u8]) -> Option<LineError> {
 fn given_by(alloc: Global, sender: Sender, digits: &[u8]) -> Result<Line, LineError>
     ensures { IfOk result (λ line. line_seen line ≡ follow.given_by sender (decode_of digits.now)) }
 {
-    match hex::decode(alloc, digits) {
+    match decode(alloc, digits) {
         Ok(octets) if octets.is_empty() => Ok(Line::Other),
         Ok(octets) => Ok(Line::Gives(sender, octets)),
         Err(FromHexError::OutOfMemory) => Err(LineError::Memory),
