@@ -19,6 +19,7 @@ SECONDS = {
     "giop_core": 306,
     "giop_frames": 139,
     "giop_link": 147,
+    "corbaloc": 120,
     "ft_log": 104,
     "ft_client": 164,
     "ft_objects": 82,
