@@ -1,6 +1,6 @@
 -- The steps of loops over a text: what spells the rest completes what was read.
-use Rattle.std.proofs.Common.{◌≡◌, ℕ, List, [], ◌∷◌, ◌++◌, append_assoc}
-use Rattle.std.proofs.lemmas.List.{append-nil}
+use Rattle.std.proofs.Common.{◌≡◌, ℕ, List, [], ◌∷◌, ◌++◌, append_assoc, length}
+use Rattle.std.proofs.lemmas.List.{append-nil, nil_from_length}
 use Rattle.corbaloc.specs.declared.address.Address.{Address}
 use Rattle.corbaloc.specs.Grammar.{IsCut, IsFree, SpellsAddress, SpellsAddresses, SpellsKey, TakesOctet}
 
@@ -21,5 +21,5 @@ pub octet_step : (text left rest : List ℕ) (octet : ℕ) (key new : List ℕ) 
 octet_step text left rest octet key new is takes so_far more h = rw (is, append_assoc) (so_far (octet ∷ more) (rest, takes, h))
 
 -- the end of a key
-pub key_end : (text left : List ℕ) (key : List ℕ) → left ≡ [] → ((more : List ℕ) → SpellsKey left more → SpellsKey text (key ++ more)) → SpellsKey text key
-key_end text left key none so_far = rw append-nil at (so_far [] none)
+pub key_end : (text left : List ℕ) (key : List ℕ) → length left ≡ 0 → ((more : List ℕ) → SpellsKey left more → SpellsKey text (key ++ more)) → SpellsKey text key
+key_end text left key none so_far = rw append-nil at (so_far [] (nil_from_length left none))
