@@ -17,15 +17,16 @@ use Rattle.std.specs.declared.cmp.Ordering.{Ordering}
 use Rattle.std.specs.declared.cmp.Ordering.TheVariants.{Less, Equal, Greater}
 use Rattle.giop_tap.specs.declared.key.Key.{Key}
 use Rattle.giop_tap.specs.Keys.{AreNamed, Kept, Keys, KeysStand, key_cmp}
-use Rattle.giop_tap.specs.Pairing.{Memory, Named, first_in, has_key, number_in, number_or, pushed, roomy, this_or, turned, weight_of, with_key, with_one}
+use Rattle.giop_tap.specs.Pairing.{Named, has_key, weight_of}
+use Rattle.giop_tap.specs.Remembered.{Memory, first_in, number_in, number_or, pushed, roomy, this_or, turned, with_key, with_one}
 
 -- the first that passes, with one more at the end
 
-first-apart : (test : Named → Bool) (ns : List Named) (x : Named) → test x ≡ false → find test (ns ++ x ∷ []) ≡ find test ns
+pub first-apart : (test : Named → Bool) (ns : List Named) (x : Named) → test x ≡ false → find test (ns ++ x ∷ []) ≡ find test ns
 first-apart test [] x differs = rw differs refl
 first-apart test (n ∷ ns) x differs = ap (λ (o : Option Named). cond (test n) (Some n) o) (first-apart test ns x differs)
 
-first-here : (test : Named → Bool) (ns : List Named) (x : Named) → option_map (λ n. n.number) (find test ns) ≡ None → test x ≡ true → option_map (λ n. n.number) (find test (ns ++ x ∷ [])) ≡ Some x.number
+pub first-here : (test : Named → Bool) (ns : List Named) (x : Named) → option_map (λ n. n.number) (find test ns) ≡ None → test x ≡ true → option_map (λ n. n.number) (find test (ns ++ x ∷ [])) ≡ Some x.number
 first-here test [] x is here = rw here refl
 first-here test (n ∷ ns) x is here = by (test n) is (λ e. first-here test ns x e here)
   where

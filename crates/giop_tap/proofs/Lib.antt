@@ -5,3 +5,5 @@ pub mod Rising
 pub mod Keyed
 pub mod News
 pub mod Feeding
+pub mod Telling
+pub mod Seeing

@@ -1,5 +1,5 @@
 -- What a listener lends to a reader beside the connection, and what octets bring.
-use Rattle.std.proofs.Common.{◌≡◌, ℕ, List, [], ◌∷◌, length, drop, Option, Some, None, IsSomeAnd, refl, ap, ◌∙◌}
+use Rattle.std.proofs.Common.{◌≡◌, ℕ, List, [], ◌∷◌, length, drop, Option, Some, None, IsSomeAnd, refl, sym, ap, ◌∙◌}
 use Rattle.std.proofs.Math.Seq.{drop-append_seam}
 use Rattle.giop_core.specs.declared.message.Message.{Message}
 use Rattle.giop_core.specs.Content.{Content}
@@ -24,7 +24,15 @@ end-is-silent (Some p) = refl
 pub silent : (l : Listened) → l.message ≡ None → heard_in (lent_by counts l) ≡ []
 silent l is = ap (λ (m : Option Frame). heard_in (told_with l.end (spoken_by counts m))) is ∙ end-is-silent l.end
 
-said : (m : Option Frame) (x : Message) → IsSomeAnd m (λ f. IsLent x f) → heard_in (spoken_by counts m) ≡ lent.content_of x.content ∷ []
+-- a message that is lent where no end is
+pub lent-alone : (l : Listened) → l.end ≡ None → heard_in (lent_by counts l) ≡ heard_in (spoken_by counts l.message)
+lent-alone l is = ap (λ (e : Option PeerEnd). heard_in (told_with e (spoken_by counts l.message))) is
+
+-- and where none is lent
+pub lent-none : (l : Listened) → l.message ≡ None → heard_in (lent_by counts l) ≡ heard_in (spoken_by counts l.message)
+lent-none l is = silent l is ∙ sym (ap (λ (m : Option Frame). heard_in (spoken_by counts m)) is)
+
+pub said : (m : Option Frame) (x : Message) → IsSomeAnd m (λ f. IsLent x f) → heard_in (spoken_by counts m) ≡ lent.content_of x.content ∷ []
 unfolding sound_of
 said None x is = absurd is
 said (Some f) x is = ap (λ r. heard_in (spoken (sound_read counts f.header.version r))) is.content

@@ -7,7 +7,8 @@ use Rattle.std.specs.Option.{option_map}
 use Rattle.std.specs.declared.cmp.Ordering.{Ordering}
 use Rattle.giop_tap.specs.declared.key.Key.{Key}
 use Rattle.giop_tap.specs.contracts.key.KeyOrd.TheImpl as order
-use Rattle.giop_tap.specs.Pairing.{Memory, Named, has_key}
+use Rattle.giop_tap.specs.Pairing.{Named, has_key}
+use Rattle.giop_tap.specs.Remembered.{Memory}
 
 -- the order of keys, in which equal ones are one
 abbrev pub key_cmp : Key → Key → Ordering

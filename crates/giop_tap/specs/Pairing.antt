@@ -1,6 +1,6 @@
 -- Which request a message answers or cancels, and which it repeats. The earlier messages are a list, the latest first, over
 -- all connections; the number of a message counts from 1.
-use Rattle.std.specs.Prelude.{ℕ, suc, ◌+◌, ◌-◌, ◌/◌, ◌==◌, ◌&&◌, ◌++◌, ℤ, Bool, true, false, List, [], ◌∷◌, length, Option, Some, None, if◌then◌else◌}
+use Rattle.std.specs.Prelude.{ℕ, suc, ◌+◌, ◌/◌, ◌==◌, ◌≤◌, ◌&&◌, ◌++◌, ℤ, Bool, true, false, List, [], ◌∷◌, length, sum_by, take, Option, Some, None, IsSome, if◌then◌else◌}
 use Rattle.std.specs.Option.{option_map}
 use Rattle.std.specs.Ordering.{int_eq}
 use Rattle.std.specs.List.{find, list_any}
@@ -14,7 +14,6 @@ use Rattle.giop_tap.specs.declared.part.Part.{Part}
 use Rattle.giop_tap.specs.declared.part.Part.TheVariants.{Asks, Answers, Cancels, Apart}
 use Rattle.giop_tap.specs.declared.place.Wanted.{Wanted}
 use Rattle.giop_tap.specs.declared.place.Wanted.TheVariants as wanted
-use Rattle.giop_tap.specs.declared.pairing.Tie.{Tie}
 use Rattle.giop_tap.specs.declared.sender.Sender.{Sender}
 use Rattle.giop_tap.specs.declared.sender.Sender.TheVariants.{Opener, Acceptor}
 
@@ -113,6 +112,11 @@ number_of (Some a) = Some a.number
 abbrev pub request_of : Said → List Said → Option ℕ
 request_of m earlier = number_of (latest (is_about m.connection m.sender (part_of m.content)) (waiting earlier))
 
+-- the same of the latest message
+abbrev pub answered : List Said → Option ℕ
+answered [] = None
+answered (m ∷ earlier) = request_of m earlier
+
 -- repeats
 
 -- FT 23.2.7: a client id and a retention id name a request over all its transmissions; and the number of the message
@@ -130,87 +134,42 @@ abbrev pub ft_of : Content → Ft
 ft_of (content.request id wish to operation contexts body) = ft_in contexts
 ft_of _ = absent
 
--- own rule: so that memory stays bounded, keys are forgotten. Remembered are the requests whose keys came last, each key once,
--- and those whose keys came before these
-pub record Memory : Type 0 where
-  pub last : List Named
-  pub before : List Named
-  -- how much more the last ones may weigh, whether there are some before, and the message at which some were forgotten first
-  pub room : ℕ
-  pub has_before : Bool
-  pub forgot : Option ℕ
+-- a request with a key, in the message of a number
+abbrev pub named_by : ℕ → Ft → List Named
+named_by number (present client retention expiration) = record { client_id = client; retention_id = retention; number = number } ∷ []
+named_by number absent = []
+named_by number bad = []
 
-abbrev pub nothing : ℕ → Memory
-nothing most = record { last = []; before = []; room = most; has_before = false; forgot = None }
+-- all of them among messages, in their order
+abbrev pub named_in : List Said → List Named
+named_in [] = []
+named_in (m ∷ earlier) = named_in earlier ++ named_by (suc (length earlier)) (ft_of m.content)
 
--- a key weighs one, and one more for each 256 octets of its client id
+-- whether a request has the key of these contexts
+abbrev pub is_repeated : Ft → Named → Bool
+is_repeated (present client retention expiration) n = has_key client retention n
+is_repeated absent n = false
+is_repeated bad n = false
+
+-- FT 23.2.7: which request the latest message repeats: the first of all with its key, on any connection
+abbrev pub repeated : List Said → Option ℕ
+repeated [] = None
+repeated (m ∷ earlier) = option_map (λ n. n.number) (find (is_repeated (ft_of m.content)) (named_in earlier))
+
+-- whether the message of a number is an earlier request with the key of the latest
+abbrev pub may_repeat : ℕ → List Said → Bool
+may_repeat number [] = false
+may_repeat number (m ∷ earlier) = list_any (λ n. is_repeated (ft_of m.content) n && n.number == number) (named_in earlier)
+
+-- own rule: a key weighs one, and one more for each 256 octets of its client id
 abbrev pub weight_of : List ℕ → ℕ
 weight_of client = length client / 256 + 1
 
--- those before are forgotten, and the last ones take their place
-abbrev pub forgot_at : ℕ → Bool → Option ℕ → Option ℕ
-forgot_at number true None = Some number
-forgot_at number true (Some earlier) = Some earlier
-forgot_at number false forgot = forgot
+abbrev pub weight_in : List Named → ℕ
+weight_in ns = sum_by (λ n. weight_of n.client_id) ns
 
-abbrev pub turned : ℕ → ℕ → Memory → Memory
-turned most number s = record { last = []; before = s.last; room = most; has_before = true; forgot = forgot_at number s.has_before s.forgot }
-
--- so it goes where the last ones leave no room
-abbrev pub roomy : ℕ → ℕ → Memory → Memory
-roomy most number s = if s.room == 0 then turned most number s else s
-
-abbrev pub pushed : Named → Memory → Memory
-pushed n s = record { last = s.last ++ n ∷ []; before = s.before; room = s.room - weight_of n.client_id; has_before = s.has_before; forgot = s.forgot }
-
--- the first request with a key
-abbrev pub number_in : List ℕ → ℤ → List Named → Option ℕ
-number_in client retention ns = option_map (λ n. n.number) (find (has_key client retention) ns)
-
-abbrev pub this_or : Option ℕ → Option ℕ → Option ℕ
-this_or (Some n) other = Some n
-this_or None other = other
-
-abbrev pub first_in : List ℕ → ℤ → Memory → Option ℕ
-first_in client retention s = this_or (number_in client retention s.last) (number_in client retention s.before)
-
--- a request with a key: it is one of the last from now on
-abbrev pub number_or : ℕ → Option ℕ → ℕ
-number_or number None = number
-number_or number (Some first) = first
-
-abbrev pub with_one : Option ℕ → Memory → Memory → Memory
-with_one (Some first) s s' = s
-with_one None s s' = s'
-
-abbrev pub with_key : ℕ → List ℕ → ℤ → ℕ → Memory → Memory
-with_key most client retention number s = with_one (number_in client retention s.last) s
-    (pushed (record { client_id = client; retention_id = retention; number = number_or number (number_in client retention s.before) }) (roomy most number s))
-
-abbrev pub remembered_after : ℕ → ℕ → Ft → Memory → Memory
-remembered_after most number (present client retention expiration) s = with_key most client retention number s
-remembered_after most number absent s = s
-remembered_after most number bad s = s
-
--- what is remembered of messages, the latest first
-abbrev pub remembered : ℕ → List Said → Memory
-remembered most [] = nothing most
-remembered most (m ∷ earlier) = remembered_after most (suc (length earlier)) (ft_of m.content) (remembered most earlier)
-
--- which request a key repeats: the first that had it, on any connection, as far as it is remembered
-abbrev pub first_with : Ft → Memory → Option ℕ
-first_with (present client retention expiration) s = first_in client retention s
-first_with absent s = None
-first_with bad s = None
-
-abbrev pub repeat_of : ℕ → Said → List Said → Option ℕ
-repeat_of most m earlier = first_with (ft_of m.content) (remembered most earlier)
-
--- both
-abbrev pub tie_of : ℕ → Said → List Said → Tie
-tie_of most m earlier = record { request = request_of m earlier; repeats = repeat_of most m earlier }
-
--- what the latest message has to do with those before it
-abbrev pub last_tie : ℕ → List Said → Option Tie
-last_tie most [] = None
-last_tie most (m ∷ earlier) = Some (tie_of most m earlier)
+-- own rule: keys may be forgotten, but none of the last requests, as many as weigh no more than this: whether the latest
+-- message repeats one of them
+abbrev pub RepeatsRecent : ℕ → List Said → Type 0
+RepeatsRecent most [] = ⊥
+RepeatsRecent most (m ∷ earlier) = (k : ℕ) × (weight_in (named_in (take k earlier)) ≤ most) × IsSome (repeated (m ∷ take k earlier))

@@ -1,15 +1,16 @@
 -- The messages of connections in the order in which they complete, by what each side sent.
-use Rattle.std.specs.Prelude.{◌≡◌, ℕ, ◌++◌, List, [], ◌∷◌, length, drop, Option}
+use Rattle.std.specs.Prelude.{◌≡◌, ℕ, ◌++◌, List, [], ◌∷◌, length, drop, Option, Some, None, ⊤}
 use Rattle.giop_core.specs.declared.header.Version.{Version}
 use Rattle.giop_core.specs.Content.{Content}
 use Rattle.giop_frames.specs.declared.limits.Limits.{Limits}
 use Rattle.giop_link.specs.Hearing.{Sound, heard_as, says}
-use Rattle.giop_link.specs.Listening.{Listened, ListenerStands}
+use Rattle.giop_link.specs.Listening.{Listened, ListenerStands, heard_in, spoken_by}
 use Rattle.giop_tap.specs.declared.pairing.Tie.{Tie}
 use Rattle.giop_tap.specs.declared.sender.Sender.{Sender}
 use Rattle.giop_tap.specs.declared.sender.Sender.TheVariants.{Opener, Acceptor}
 use Rattle.giop_tap.specs.Keys.{Kept, KeysStand}
-use Rattle.giop_tap.specs.Pairing.{Said, last_tie, remembered, waiting}
+use Rattle.giop_tap.specs.Pairing.{Said, waiting}
+use Rattle.giop_tap.specs.Remembered.{last_tie, remembered}
 use Rattle.giop_tap.specs.Waiting.{AreWaiting, Waits}
 
 -- each message counts to a reader beside the connection
@@ -30,6 +31,11 @@ pub record Talk : Type 0 where
   pub opener : List ℕ
   pub acceptor : List ℕ
   pub earlier : List Said
+
+-- the octets of a side
+abbrev pub octets_of : Sender → Talk → List ℕ
+octets_of Opener t = t.opener
+octets_of Acceptor t = t.acceptor
 
 -- messages of a side after those
 abbrev pub said_after : ℕ → Sender → List Content → List Said → List Said
@@ -93,16 +99,43 @@ pub record EndsStand (limits : Limits) (e : Parted) (t : Talk) : Type 0 where
 abbrev pub turned : Talk → Talk → Talk
 turned on t = record { connection = on.connection; opener = on.opener; acceptor = on.acceptor; earlier = t.earlier }
 
--- a trace, and what it stands for
+-- a trace, and the side whose message it lends, if it lends one
 pub record Traced : Type 0 where
   pub limits : Limits
   pub connection : ℕ
   pub opener : Listened
   pub acceptor : Listened
   pub pairs : Paired
+  pub lends : Option Sender
+
+-- the end that hears a side
+abbrev pub end_of : Sender → Traced → Listened
+end_of Opener x = x.opener
+end_of Acceptor x = x.acceptor
+
+-- the message that a trace lends
+abbrev pub lent_from : Option Sender → Traced → List Content
+lent_from None x = []
+lent_from (Some sender) x = heard_in (spoken_by counts (end_of sender x).message)
+
+abbrev pub lent_of : Traced → List Content
+lent_of x = lent_from x.lends x
+
+-- a message is the latest
+abbrev pub IsLatest : Said → List Said → Type 0
+IsLatest m [] = ⊥
+IsLatest m (n ∷ earlier) = m ≡ n
+
+-- and so is one of a side that is lent
+abbrev pub IsLentLast : ℕ → Option Sender → List Content → List Said → Type 0
+IsLentLast connection (Some sender) (content ∷ others) earlier = IsLatest (record { connection = connection; sender = sender; content = content }) earlier
+IsLentLast connection _ _ earlier = ⊤
+
+-- what a trace stands for
 
 pub record TraceStands (x : Traced) (t : Talk) : Type 0 where
   pub connection_is : x.connection ≡ t.connection
   pub opener_stands : ListenerStands counts x.limits x.opener t.opener
   pub acceptor_stands : ListenerStands counts x.limits x.acceptor t.acceptor
   pub pairs_stand : PairsStand x.pairs t.earlier
+  pub lent_is : IsLentLast x.connection x.lends (lent_of x) t.earlier

@@ -5,7 +5,9 @@ ghost use Rattle.std.specs.List.{find};
 ghost use Rattle.giop_core.specs.Ft.{ft_seen};
 ghost use Rattle.giop_tap.specs.Keys.{AreNamed, KeysStand};
 ghost use Rattle.giop_tap.specs.Pairing as pairs;
-ghost use Rattle.giop_tap.specs.Pairing.{Memory, has_key};
+ghost use Rattle.giop_tap.specs.Remembered as memory;
+ghost use Rattle.giop_tap.specs.Pairing.{has_key};
+ghost use Rattle.giop_tap.specs.Remembered.{Memory};
 
 use crate::key::Key;
 use giop_core::FtField;
@@ -49,7 +51,7 @@ fn weight_of(client_id: &[u8]) -> u64
 impl Keyed {
     /// None so far.
     pub fn new(alloc: Global, most: u64) -> Keyed
-        ensures stands { KeysStand result (pairs.nothing most) }
+        ensures stands { KeysStand result (memory.nothing most) }
         ensures most { result.most ≡ most }
     {
         Keyed {
@@ -72,7 +74,7 @@ impl Keyed {
 
     /// Makes the last keys those before, for the message of a number.
     fn turn(&mut self, number: u64)
-        ensures stands { (s : Memory) → KeysStand self.old s → KeysStand self.new (pairs.turned self.old.most number s) }
+        ensures stands { (s : Memory) → KeysStand self.old s → KeysStand self.new (memory.turned self.old.most number s) }
         ensures most { self.new.most ≡ self.old.most }
     {
         if self.has_before && self.forgot.is_none() {
@@ -85,7 +87,7 @@ impl Keyed {
 
     /// Makes room for one more key, for the message of a number.
     fn make_room(&mut self, number: u64)
-        ensures stands { (s : Memory) → KeysStand self.old s → KeysStand self.new (pairs.roomy self.old.most number s) }
+        ensures stands { (s : Memory) → KeysStand self.old s → KeysStand self.new (memory.roomy self.old.most number s) }
         ensures most { self.new.most ≡ self.old.most }
     {
         if self.room == 0 {
@@ -96,7 +98,7 @@ impl Keyed {
     /// Takes a key that is none of the last, and the number of the first request with it.
     fn push(&mut self, key: Key, number: u64) -> Result<(), AllocError>
         ensures stands { (s : Memory) → KeysStand self.old s → find (has_key key.client_id.items key.retention_id) s.last ≡ None
-            → OnOk result (KeysStand self.new (pairs.pushed (record { client_id = key.client_id.items; retention_id = key.retention_id; number = number }) s)) }
+            → OnOk result (KeysStand self.new (memory.pushed (record { client_id = key.client_id.items; retention_id = key.retention_id; number = number }) s)) }
         ensures most { self.new.most ≡ self.old.most }
     {
         let weight = weight_of(&key.client_id);
@@ -112,8 +114,8 @@ impl Keyed {
         retention_id: i32,
         number: u64,
     ) -> Result<Option<u64>, AllocError>
-        ensures first { (s : Memory) → KeysStand self.old s → IfOk result (λ n. n ≡ pairs.first_in client_id.now retention_id s) }
-        ensures stands { (s : Memory) → KeysStand self.old s → OnOk result (KeysStand self.new (pairs.with_key self.old.most client_id.now retention_id number s)) }
+        ensures first { (s : Memory) → KeysStand self.old s → IfOk result (λ n. n ≡ memory.first_in client_id.now retention_id s) }
+        ensures stands { (s : Memory) → KeysStand self.old s → OnOk result (KeysStand self.new (memory.with_key self.old.most client_id.now retention_id number s)) }
         ensures most { self.new.most ≡ self.old.most }
     {
         let key = Key {
@@ -132,8 +134,8 @@ impl Keyed {
     /// Takes what the next message says of its client, and returns the number of the first request with its key, if it
     /// has one, and one had it before.
     pub fn take(&mut self, number: u64, field: FtField) -> Result<Option<u64>, AllocError>
-        ensures first { (s : Memory) → KeysStand self.old s → IfOk result (λ n. n ≡ pairs.first_with (ft_seen field.entry) s) }
-        ensures stands { (s : Memory) → KeysStand self.old s → OnOk result (KeysStand self.new (pairs.remembered_after self.old.most number (ft_seen field.entry) s)) }
+        ensures first { (s : Memory) → KeysStand self.old s → IfOk result (λ n. n ≡ memory.first_with (ft_seen field.entry) s) }
+        ensures stands { (s : Memory) → KeysStand self.old s → OnOk result (KeysStand self.new (memory.remembered_after self.old.most number (ft_seen field.entry) s)) }
         ensures most { self.new.most ≡ self.old.most }
     {
         match field {

@@ -2,7 +2,8 @@
 
 ghost use Rattle.std.specs.Prelude.{◌≡◌, suc, ◌∷◌, [], List, IfOk, OnOk};
 ghost use Rattle.giop_core.specs.Lent.{content_of};
-ghost use Rattle.giop_tap.specs.Pairing.{Said, tie_of};
+ghost use Rattle.giop_tap.specs.Pairing.{Said};
+ghost use Rattle.giop_tap.specs.Remembered.{tie_of};
 ghost use Rattle.giop_tap.specs.Tracing.{PairsStand};
 
 use crate::keys::Keyed;

@@ -1,11 +1,12 @@
 //! A reader beside connections: each message of either side, and what it has to do with earlier ones.
 
-ghost use Rattle.std.specs.Prelude.{◌≡◌, ◌≤◌, ◌++◌, ℕ, List, length, take, IfOk, IfSome, Some};
+ghost use Rattle.std.specs.Prelude.{◌≡◌, ◌≤◌, ◌++◌, ℕ, List, length, take, [], IfOk, IfSome, IsSome, IsTrue, MatchOption, None, Some};
+ghost use Rattle.giop_core.specs.Lent.{content_of};
 ghost use Rattle.giop_frames.specs.declared.limits.Limits.{Limits};
-ghost use Rattle.giop_link.specs.Listening.{ListenerStands};
-ghost use Rattle.giop_tap.specs.Pairing.{Said};
+ghost use Rattle.giop_link.specs.Listening.{ListenerStands, heard_in, spoken_by};
+ghost use Rattle.giop_tap.specs.Pairing.{RepeatsRecent, Said, answered, may_repeat, named_in, repeated, weight_in};
 ghost use Rattle.giop_tap.specs.Tracing as tracing;
-ghost use Rattle.giop_tap.specs.Tracing.{EndsStand, PairsStand, Talk, TraceStands, counts, news, said_after, talk_after};
+ghost use Rattle.giop_tap.specs.Tracing.{EndsStand, IsLatest, PairsStand, Talk, TraceStands, counts, end_of, lent_of, news, octets_of, said_after, talk_after};
 
 use crate::either::Either;
 use crate::pairing::{Pairs, Tie};
@@ -29,6 +30,8 @@ fn hear(
     ensures pairs { (limits : Limits) (s : List ℕ) (earlier : List Said) → ListenerStands counts limits listener.old s → PairsStand pairs.old earlier
         → IfOk result (λ n. PairsStand pairs.new (said_after connection sender (news limits s (take n piece.now)) earlier)) }
     ensures within { IfOk result (λ n. n ≤ length piece.now) }
+    // what the octets bring is the message that is lent then
+    ensures brings { (limits : Limits) (s : List ℕ) → ListenerStands counts limits listener.old s → IfOk result (λ n. heard_in (spoken_by counts listener.new.message) ≡ news limits s (take n piece.now)) }
     ensures keys { pairs.new.keyed.most ≡ pairs.old.keyed.most }
 {
     let taken = listener.feed(piece)?;
@@ -106,7 +109,7 @@ impl Model for Trace {
 
     ghost Value = { Traced };
 
-    ghost view = { λ t. record { limits = t.limits; connection = t.connection; opener = t.opener; acceptor = t.acceptor; pairs = t.pairs } };
+    ghost view = { λ t. record { limits = t.limits; connection = t.connection; opener = t.opener; acceptor = t.acceptor; pairs = t.pairs; lends = t.lends } };
 }
 
 impl Trace {
@@ -180,6 +183,8 @@ impl Trace {
     /// resumed; or that an allocation failed, after which the trace is no longer whole.
     pub fn feed(&mut self, sender: Sender, piece: &[u8]) -> Result<usize, LinkFault>
         ensures stands { (t : Talk) → TraceStands self.old t → IfOk result (λ n. TraceStands self.new (talk_after self.old.limits sender (take n piece.now) t)) }
+        // each message that the octets bring is lent
+        ensures brings { (t : Talk) → TraceStands self.old t → IfOk result (λ n. lent_of self.new ≡ news self.old.limits (octets_of sender t) (take n piece.now)) }
         ensures within { IfOk result (λ n. n ≤ length piece.now) }
         ensures limits { self.new.limits ≡ self.old.limits }
         ensures keys { self.new.pairs.keyed.most ≡ self.old.pairs.keyed.most }
@@ -206,16 +211,21 @@ impl Trace {
 
     /// The message that the last call of `feed` completed, if it did.
     pub fn seen(&self) -> Option<Seen<'_>>
+        // it is the latest of all
+        ensures message { (t : Talk) → TraceStands self.now t → MatchOption result (lent_of self.now ≡ []) (λ s. IsLatest (record { connection = s.connection; sender = s.sender; content = content_of s.message.content }) t.earlier) }
         // its number is that of all messages so far
         ensures number { IfSome result (λ s. s.number ≡ self.now.pairs.count) }
         ensures tie { IfSome result (λ s. self.now.pairs.last ≡ Some s.tie) }
         ensures connection { IfSome result (λ s. s.connection ≡ self.now.connection) }
+        ensures request { (t : Talk) → TraceStands self.now t → IfSome result (λ s. s.tie.request ≡ answered t.earlier) }
+        // while no key was forgotten, it repeats the first of all requests with its key
+        ensures first { (t : Talk) → TraceStands self.now t → self.now.pairs.keyed.forgot ≡ None → IfSome result (λ s. s.tie.repeats ≡ repeated t.earlier) }
+        // and what it repeats has its key, whatever was forgotten
+        ensures repeats { (t : Talk) → TraceStands self.now t → IfSome result (λ s. IfSome s.tie.repeats (λ n. IsTrue (may_repeat n t.earlier))) }
+        ensures recent { (t : Talk) → TraceStands self.now t → RepeatsRecent self.now.pairs.keyed.most t.earlier → IfSome result (λ s. IsSome s.tie.repeats) }
     {
         let sender = self.lends?;
-        let message = match sender {
-            Sender::Opener => self.opener.message()?,
-            Sender::Acceptor => self.acceptor.message()?,
-        };
+        let message = self.listener(sender).message()?;
         let tie = self.pairs.last()?;
         Some(Seen {
             number: self.pairs.count(),
@@ -227,7 +237,9 @@ impl Trace {
     }
 
     /// The end that hears a side.
-    fn listener(&self, sender: Sender) -> &Listener<Either> {
+    fn listener(&self, sender: Sender) -> &Listener<Either>
+        ensures { result.now ≡ end_of sender self.now }
+    {
         match sender {
             Sender::Opener => &self.opener,
             Sender::Acceptor => &self.acceptor,
@@ -259,7 +271,8 @@ impl Trace {
     /// The number of the message at which keys of requests were forgotten first, if some were: later requests with one of
     /// them repeat nothing that is known.
     pub fn forgot(&self) -> Option<u64>
-        ensures { result ≡ self.now.pairs.keyed.forgot }
+        ensures number { result ≡ self.now.pairs.keyed.forgot }
+        ensures light { (t : Talk) → TraceStands self.now t → weight_in (named_in t.earlier) ≤ self.now.pairs.keyed.most → result ≡ None }
     {
         self.pairs.forgot()
     }

@@ -7,7 +7,8 @@ use Rattle.std.specs.Map.{lookup}
 use Rattle.std.specs.Option.{option_copied}
 use Rattle.giop_tap.specs.declared.key.Key.{Key}
 use Rattle.giop_tap.specs.Keys.{Kept, KeysStand, key_cmp}
-use Rattle.giop_tap.specs.Pairing.{Named, number_in, number_or, pushed, roomy}
+use Rattle.giop_tap.specs.Pairing.{Named}
+use Rattle.giop_tap.specs.Remembered.{number_in, number_or, pushed, roomy}
 use Rattle.giop_tap.proofs.Keyed.{absent, found-first, found-stands, or-number, other-first, other-stands}
 use Rattle.giop_tap.proofs.keys.Keyed.first_with.Goals as goal
 
