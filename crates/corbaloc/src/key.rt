@@ -1,6 +1,6 @@
 //! Keys of locations.
 
-ghost use Rattle.std.specs.Prelude.{◌≡◌, ◌<◌, ◌+◌, ◌*◌, ℕ, List, length, IfErr, IfOk, IfSome, MatchOption};
+ghost use Rattle.std.specs.Prelude.{◌≡◌, ◌≢◌, ◌<◌, ◌+◌, ◌*◌, ℕ, List, length, IfErr, IfOk, IfSome, MatchOption};
 ghost use Rattle.std.specs.Char.{digit_value};
 ghost use Rattle.corbaloc.specs.Grammar.{is_plain, SpellsKey, TakesOctet};
 
@@ -53,9 +53,9 @@ fn first_octet(at: usize, text: &[u8]) -> Result<(u8, &[u8]), LocationError>
 }
 
 /// The octets of the key that a text spells, which begins at this place.
-#[tactic(auto, using(crate::proofs::Steps::octet_step, crate::proofs::Steps::key_end))]
 pub(crate) fn key_in(alloc: Global, at: usize, text: &[u8]) -> Result<Vec<u8>, LocationError>
-    ensures { IfOk result (λ key. SpellsKey text.now key.items) }
+    ensures spelled { IfOk result (λ key. SpellsKey text.now key.items) }
+    ensures refused { IfErr result (λ e. e ≢ LocationError.Memory → (key : List ℕ) → SpellsKey text.now key → ⊥) }
 {
     let mut key = Vec::new(alloc);
     let mut left = text;

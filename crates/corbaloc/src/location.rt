@@ -1,6 +1,6 @@
 //! Locations.
 
-ghost use Rattle.std.specs.Prelude.{IfOk, IfSome};
+ghost use Rattle.std.specs.Prelude.{◌≡◌, ◌≢◌, ◌++◌, ◌∷◌, codes, ℕ, List, IfErr, IfNone, IfOk, IfSome};
 ghost use Rattle.corbaloc.specs.Grammar.{SpellsEnd, SpellsLocation, SpellsScheme};
 
 use crate::address::{Address, addresses_in};
@@ -19,7 +19,8 @@ pub struct Location {
 
 /// What follows `corbaloc:`, whose letters may be in either case.
 fn after_scheme(text: &str) -> Option<&str>
-    ensures { IfSome result (λ rest. SpellsScheme text.now rest.now) }
+    ensures found { IfSome result (λ rest. SpellsScheme text.now rest.now) }
+    ensures none { IfNone result ((rest : List ℕ) → SpellsScheme text.now rest → ⊥) }
 {
     let (scheme, rest) = cut(text, ':')?;
     scheme.eq_ignore_ascii_case("corbaloc").then_some(rest)
@@ -43,7 +44,8 @@ fn before_key(text: &str) -> (&str, &str)
 /// hexadecimal digits, `:` and `.`, and is not looked at further; numbers may begin with zeros; no
 /// address may be `rir:` or of another protocol; octets after `#` are no fragment.
 pub fn parse_location(alloc: Global, text: &str) -> Result<Location, LocationError>
-    ensures { IfOk result (λ location. SpellsLocation text.now location) }
+    ensures spelled { IfOk result (λ location. SpellsLocation text.now location) }
+    ensures refused { IfErr result (λ e. e ≢ LocationError.Memory → (location : Location) → SpellsLocation text.now location → ⊥) }
 {
     let rest = after_scheme(text).ok_or(LocationError::NoPrefix)?;
     let (addresses, key) = before_key(rest);
