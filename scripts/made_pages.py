@@ -224,8 +224,9 @@ def options_table(text: str) -> str:
     rows = []
     for option, purpose in long_options(text):
         if option != "--help":
-            said, default = re.fullmatch(r"(.*?)(?: \[default: (.*)\])?", purpose).groups()
-            rows.append([f"`{option}`", cell(said), cell(default or "")])
+            said, default, values = re.fullmatch(
+                r"(.*?)(?: \[default: (.*?)\])?(?: \[possible values: (.*)\])?", purpose).groups()
+            rows.append([f"`{option}`", cell(f"{said} ({values})" if values else said), cell(default or "")])
     return table(["Option", "What it does", "Without it"], rows)
 
 
