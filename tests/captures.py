@@ -566,7 +566,8 @@ class Coloured(unittest.TestCase):
 
 RECORDING = os.path.join(CAPTURES, "names.pcapng")
 # the numbers of messages and of statuses in the standard
-FIELDS = ["frame.number", "frame.time_epoch", "giop.type", "giop.request_id", "giop.request_op", "giop.replystatus"]
+FIELDS = ["frame.number", "frame.time_epoch", "giop.type", "giop.request_id", "giop.request_op", "giop.replystatus",
+          "giop.char_data", "giop.wchar_data", "giop.iiop.host", "giop.iiop.port"]
 
 
 class Recorded(unittest.TestCase):
@@ -574,7 +575,8 @@ class Recorded(unittest.TestCase):
 
     @programs.needs("tshark")
     def test_as_tshark(self):
-        """Each message that tshark finds stands in the same packet, with the same kind, request id, operation and status."""
+        """Each message that tshark finds stands in the same packet, with the same kind, request id, operation, status, code
+        sets and address that it leads on to."""
         programs.program("GIOP")
         words = [word for field in FIELDS for word in ("-e", field)]
         told = base.ran("tshark", "-r", RECORDING, "-Y", "giop", "-T", "fields", *words, seconds=120).stdout.decode()
@@ -583,8 +585,9 @@ class Recorded(unittest.TestCase):
         self.assertEqual((run.returncode, run.stderr), (0, b""))
         got = [one for one in map(json.loads, run.stdout.splitlines()) if one["line"] == "message"]
         self.assertEqual(len(got), len(told.splitlines()))
+        seen = {"meaning": 0, "forward": 0}
         for one, line in zip(got, told.splitlines()):
-            frame, time, kind, request_id, operation, status = line.split("\t")
+            frame, time, kind, request_id, operation, status, narrow, wide, host, port = line.split("\t")
             seconds, _, rest = time.partition(".")
             self.assertEqual((one["frame"], one["time"], one["kind"]), (
                 int(frame), clock(int(seconds) * 10 ** 9 + int(rest)), trace.KINDS[int(kind)]))
@@ -594,6 +597,15 @@ class Recorded(unittest.TestCase):
                 self.assertEqual(one["operation"], operation)
             if one["kind"] == "Reply":
                 self.assertEqual(one["status"], trace.STATUSES[int(status)])
+            if narrow:
+                seen["meaning"] += 1
+                self.assertEqual([context.get("meaning") for context in one["contexts"] if context["id"] == giop.CODE_SETS],
+                                 [f"char {trace.CODE_SETS[int(narrow)]}, wchar {trace.CODE_SETS[int(wide)]}"])
+            self.assertEqual("forward" in one, one["status"] == "LOCATION_FORWARD")
+            if "forward" in one:
+                seen["forward"] += 1
+                self.assertEqual([(to["host"], str(to["port"])) for to in one["forward"]["profiles"]], [(host, port)])
+        self.assertTrue(all(seen.values()), seen)
 
 
 # ------------------------------------------------------------------------------------------------- as it comes
