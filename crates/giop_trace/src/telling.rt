@@ -275,6 +275,7 @@ impl Teller {
         let operation = self.asked.operation(request);
         let shown = Shown {
             end: open.end(seen.sender),
+            frames: open.frames(seen.sender),
             operation,
             values: values.text.as_deref(),
             seen,
