@@ -26,7 +26,7 @@ import threading
 import unittest
 import xml.etree.ElementTree
 
-from tests import base, giop, programs, trace
+from tests import base, giop, programs, trace, typed
 
 SCRIPT = os.path.join(programs.ROOT, "giop-capture")
 CAPTURES = os.path.join(programs.HERE, "captures")
@@ -182,6 +182,14 @@ def check_session(made, text):
     return trace.compared(wanted, got[1:-1]) or trace.differences(trace.ending(made, wanted), got[-1])
 
 
+def body_of(message):
+    """What is printed of a message's body, if it has one."""
+    if message.kind not in (trace.REQUEST, trace.REPLY, trace.LOCATED):
+        return {}
+    octets = message.says.get("body", b"")
+    return {"body": octets.hex(), "text": typed.text_of(octets)}
+
+
 class Packeted(unittest.TestCase):
     """What is said of connections in packets."""
 
@@ -205,6 +213,14 @@ class Packeted(unittest.TestCase):
     def test_by_streams(self, seed):
         """One stream after another, in any order, their messages are told in the order of their packets."""
         self.judge(seed, by_streams)
+
+    @base.each_seed(SEED, 12)
+    def test_bodies(self, seed):
+        """With --bodies each body is told in digits and as text."""
+        made = played(steps_of(random.Random(seed)), random.Random(seed))
+        wanted = [{**one, **body_of(message)} for one, (_, _, message, _) in zip(made.objects(), made.sent)]
+        status, got, err = trace.traced_objects(by_turns(made), "--bodies")
+        self.assertEqual((status, trace.compared(wanted, got[1:-1]), err), (0, None, ""))
 
 
 # ------------------------------------------------------------------------------------------------- some messages only

@@ -120,7 +120,9 @@ class Session:
 
     def send(self, side, message):
         """Sends a message in lines that are cut anywhere."""
-        for octets in message.frames(self.rng):
+        frames = message.frames(self.rng)
+        message.count = len(frames)
+        for octets in frames:
             self.write(side, octets)
         self.sent.append((self.connection, side, message, self.ends[side]))
 
@@ -198,7 +200,7 @@ def object_of(message, number, connection, side, end, request, repeat, earlier):
         "request": request, "later": number - request if request else None, "exception": says.get("exception"),
         "contexts": [{"id": i, "name": CONTEXTS[i], "octets": o.hex(), **meaning(i, o)} for i, o in message.contexts()]
                     if has_contexts else [],
-        "ft": ft, "repeats": repeat,
+        "ft": ft, "repeats": repeat, **({"frames": message.count} if message.count > 1 else {}),
     }
 
 

@@ -504,6 +504,19 @@ class Typed(unittest.TestCase):
         self.assertEqual([one.get("values", 0) for one in objects[1:-1]],
                          [{"at": 7}, {"at": 7}, None, 0, {"-": -1}, {"-": "a"}, None, 0])
 
+    def test_interface_of_the_request(self) -> None:
+        """A reply is not of an interface whose arguments are not those of its request; where they fit more than one, each
+        that is left is tried."""
+        table = HEAD + "".join(f"interface {name}\noperation get\n{at}out - {to}\n" for name, at, to in [
+            ("A", "in at octet\n", "long"), ("B", "in at ulong\n", "ulong"), ("C", "in at long\n", "string")])
+        sent = [giop.request(number, b"k", "get", bytes(size)) for number, size in ((1, 1), (2, 4), (3, 4), (4, 4))]
+        answers = [giop.reply(1, b"\xff\xff\xff\xff"), giop.reply(2, b"\xff\xff\xff\xff"),
+                   giop.reply(3, b"\0\0\0\x02a\0"), giop.reply(4, b"\xff")]
+        given = "".join(f"{one.hex()}\n" for one in sent) + "".join(f"\t{one.hex()}\n" for one in answers)
+        self.assertEqual(self.told(table, given.encode()), [
+            "get(at = 0)", "get(at = 0)", "get(at = 0)", "get(at = 0)",
+            "= -1", "= 4294967295", '= "a"', "types do not fit"])
+
     def test_operations_of_all_objects(self) -> None:
         """Those that each ORB answers itself are known without the table."""
         ask = giop.request(1, b"k", "_is_a", lambda out: out.string("IDL:A:1.0"))

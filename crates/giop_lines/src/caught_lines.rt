@@ -83,11 +83,15 @@ fn put_object(
     }
 }
 
-/// Appends how many octets a body has, and where they are asked for its digits.
+/// Appends how many octets a body has, and where they are asked for its digits and its text.
 fn put_octets(printer: &Printer, body: &Body, text: &mut String) -> Result<(), AllocError> {
     put_count(body.octets, text)?;
     if printer.has_bodies {
         put_body(printer.alloc, body, text)?;
+        if !body.octets.is_empty() {
+            text.push(' ')?;
+            text.push_str(&text_of(printer.alloc, body.octets)?)?;
+        }
     }
     text.push('\n')
 }
@@ -265,6 +269,7 @@ fn put_lines(
     let number = shown.seen.number;
     let repeats = shown.seen.tie.repeats;
     let values = shown.values;
+    let frames = shown.frames;
     let version = shown.seen.message.version;
     let order = shown.seen.message.order;
     write!(text, "{number} ")?;
@@ -276,6 +281,9 @@ fn put_lines(
         text,
     )?;
     write!(text, ": {version} {order} ")?;
+    if frames > 1 {
+        write!(text, "{frames} frames ")?;
+    }
     let mut forward = String::new(printer.alloc);
     put_forward(
         printer.alloc,

@@ -54,6 +54,10 @@ struct MessageObject {
     forward: Option<ForwardObject>,
     #[serde(skip_serializing_if = "Option::is_none")]
     body: Option<String>,
+    #[serde(skip_serializing_if = "Option::is_none")]
+    text: Option<String>,
+    #[serde(skip_serializing_if = "Option::is_none")]
+    frames: Option<u64>,
 }
 
 fn version_name(version: Version) -> &'static str {
@@ -109,6 +113,8 @@ fn bare_object(alloc: Global, shown: &Shown) -> MessageObject {
         latency: None,
         forward: None,
         body: None,
+        text: None,
+        frames: (shown.frames > 1).then_some(shown.frames),
     }
 }
 
@@ -236,15 +242,14 @@ fn set_content(
     Ok(())
 }
 
-/// The digits of a message's body, if it has one.
-fn body_text(alloc: Global, content: &Content) -> Result<Option<String>, AllocError> {
-    let octets = match content {
-        Content::Request(request) => request.body.octets,
-        Content::Reply(reply) => reply.body.octets,
-        Content::LocateReply(reply) => reply.body.octets,
-        _ => return Ok(None),
-    };
-    Ok(Some(hex::encode(alloc, octets)?))
+/// A message's body, if it has one.
+fn body_in<'m>(content: &Content<'m>) -> Option<&'m [u8]> {
+    match content {
+        Content::Request(request) => Some(request.body.octets),
+        Content::Reply(reply) => Some(reply.body.octets),
+        Content::LocateReply(reply) => Some(reply.body.octets),
+        _ => None,
+    }
 }
 
 /// The letter of the key that a message is for, if it is for one.
@@ -273,8 +278,11 @@ fn set_caught(
     object.since = caught.since();
     object.latency = caught.latency;
     object.forward = forward_object(printer.alloc, content, objects)?;
-    if printer.has_bodies {
-        object.body = body_text(printer.alloc, content)?;
+    if printer.has_bodies
+        && let Some(octets) = body_in(content)
+    {
+        object.body = Some(hex::encode(printer.alloc, octets)?);
+        object.text = Some(text_of(printer.alloc, octets)?);
     }
     Ok(())
 }

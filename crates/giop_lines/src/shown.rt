@@ -9,6 +9,8 @@ pub struct Shown<'t> {
     pub seen: Seen<'t>,
     /// How many octets of its direction have come with its last one.
     pub end: u64,
+    /// In how many frames it came.
+    pub frames: u64,
     /// The operation of the request that it answers or cancels; none where there is none, or it is a LocateRequest.
     pub operation: Option<&'t [u8]>,
     /// What a table of types tells of its body, in the form of the lines; none where it tells nothing.

@@ -12,6 +12,8 @@ pub(crate) struct Request {
     key: Option<Vec<u8>>,
     /// The operation that it asks for; none of a LocateRequest.
     operation: Option<Vec<u8>>,
+    /// How many operations of that name it is not of, as far as is known: its body has no arguments of theirs.
+    others: usize,
     /// When its last octet came, where that is known.
     time: Option<u64>,
     is_cancelled: bool,
@@ -35,6 +37,11 @@ impl Request {
             Some(name) => Some(name),
             None => None,
         }
+    }
+
+    /// How many operations of that name it is not of, as far as is known.
+    pub fn others(&self) -> usize {
+        self.others
     }
 }
 
@@ -93,6 +100,7 @@ impl Asked {
         let request = Request {
             key: copied(self.alloc, key_in(content))?,
             operation: copied(self.alloc, operation_in(content))?,
+            others: 0,
             time,
             is_cancelled: false,
             is_chosen,
@@ -117,6 +125,13 @@ impl Asked {
     /// The operation that the request of a number asks for, if it asks for one.
     pub fn operation(&self, number: u64) -> Option<&[u8]> {
         self.requests.get(&number)?.operation()
+    }
+
+    /// Notes that so many operations of its name are not that of the request of a number.
+    pub fn pass_over(&mut self, number: u64, others: usize) {
+        if let Some(request) = self.requests.get_mut(&number) {
+            request.others = others;
+        }
     }
 
     /// The request of a number.

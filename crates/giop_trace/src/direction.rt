@@ -1,6 +1,7 @@
 //! One side's octets on a connection, as they are given to the trace: frame by frame, so that the place of a fault is
 //! known, and reading can go on after it, or after octets that the capture missed. What is read is not held.
 
+use crate::frames::Frames;
 use crate::headers::{HEADER, header_in, is_cut, is_fragment, is_plausible};
 use crate::steps::Step;
 use crate::stop::Stop;
@@ -44,6 +45,7 @@ pub(crate) struct Direction {
     passed: u64,
     /// Whether Fragments whose message did not begin are passed over, as some beginnings were.
     forgives: bool,
+    frames: Frames,
 }
 
 /// How the octets of a side are read.
@@ -65,12 +67,24 @@ impl Direction {
             left: 0,
             passed: 0,
             forgives: false,
+            frames: Frames::new(alloc),
         }
     }
 
     /// The place after what has come.
     pub fn taken(&self) -> u64 {
         self.taken
+    }
+
+    /// In how many frames the last message came that is whole.
+    pub fn frames(&self) -> u64 {
+        self.frames.last()
+    }
+
+    /// Lets the stream begin anew.
+    fn resume(&mut self, sender: Sender, trace: &mut Trace) {
+        self.frames.clear();
+        trace.resume(sender);
     }
 
     /// Counts octets as come.
@@ -109,9 +123,10 @@ impl Direction {
     }
 
     /// Goes on behind the frame.
-    fn end_frame(&mut self) {
+    fn end_frame(&mut self) -> Result<(), AllocError> {
         self.mode = Mode::Header;
         self.start = self.taken;
+        self.frames.end()
     }
 
     /// Passes over the frame whose header is held.
@@ -139,12 +154,12 @@ impl Direction {
         self.passed = 0;
         match fault {
             LinkFault::Stream(StreamFault::StrayFragment) if self.forgives => {
-                trace.resume(sender);
+                self.resume(sender, trace);
                 self.skip_frame();
                 return Step::Idle;
             }
             LinkFault::Stream(StreamFault::UnalignedFragment) if is_cut(&self.head) => {
-                trace.resume(sender);
+                self.resume(sender, trace);
                 self.forgives = true;
                 self.skip_frame();
             }
@@ -166,7 +181,7 @@ impl Direction {
         self.passed = 0;
         match fault {
             LinkFault::Stream(StreamFault::StrayFragment) if self.forgives => {
-                trace.resume(sender);
+                self.resume(sender, trace);
                 self.passed = self.frame_given();
                 self.mode = Mode::Next;
                 return Step::Idle;
@@ -195,10 +210,11 @@ impl Direction {
         match trace.feed(sender, &self.head) {
             Ok(_) => {
                 self.left = trace.left(sender);
+                self.frames.begin(&self.head);
                 self.head.clear();
                 self.mode = Mode::Body;
                 if self.left == 0 {
-                    self.end_frame();
+                    self.end_frame()?;
                 }
                 Ok((Step::Gave, count))
             }
@@ -232,8 +248,9 @@ impl Direction {
         self.left = self.left.saturating_sub(count as u64);
         match trace.feed(sender, octets) {
             Ok(_) => {
+                self.frames.take(octets)?;
                 if self.left == 0 {
-                    self.end_frame();
+                    self.end_frame()?;
                 }
                 Ok((Step::Gave, count))
             }
@@ -297,7 +314,7 @@ impl Direction {
             self.count(1);
             count = count.saturating_add(1);
             if is_plausible(&self.head, limit) {
-                trace.resume(sender);
+                self.resume(sender, trace);
                 return Ok((self.go_on(), count));
             }
         }
@@ -348,7 +365,7 @@ impl Direction {
         };
         self.taken = self.taken.saturating_add(octets);
         self.forgives = true;
-        trace.resume(sender);
+        self.resume(sender, trace);
     }
 
     /// What is left at the end of the connection.

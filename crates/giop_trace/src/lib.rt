@@ -11,6 +11,7 @@ mod choice;
 mod coming;
 mod direction;
 mod follow;
+mod frames;
 mod headers;
 mod item;
 mod notes;

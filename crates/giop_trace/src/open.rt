@@ -111,6 +111,14 @@ impl Open {
         }
     }
 
+    /// In how many frames the last message of a side came.
+    pub fn frames(&self, sender: Sender) -> u64 {
+        match sender {
+            Sender::Opener => self.opener.frames(),
+            Sender::Acceptor => self.acceptor.frames(),
+        }
+    }
+
     /// How many octets of a side have come, those that the capture missed among them.
     pub fn end(&self, sender: Sender) -> u64 {
         match sender {

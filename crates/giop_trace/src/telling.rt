@@ -264,18 +264,20 @@ impl Teller {
             return Ok(());
         }
         let caught = open.caught(seen.sender, beginning, latency);
-        let operation = self.asked.operation(request);
         let values = values_in(
             self.alloc,
             &self.types,
             self.printer.format,
             &seen.message.content,
-            operation,
+            self.asked.request(request),
         )?;
+        self.asked.pass_over(seen.number, values.others);
+        let operation = self.asked.operation(request);
         let shown = Shown {
             end: open.end(seen.sender),
+            frames: open.frames(seen.sender),
             operation,
-            values: values.as_deref(),
+            values: values.text.as_deref(),
             seen,
         };
         let text = self

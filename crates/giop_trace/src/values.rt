@@ -1,10 +1,20 @@
 //! What a table of types tells of messages.
 
+use crate::asked::Request;
 use giop_core::{Content, Reply, ReplyStatus};
 use giop_lines::Format;
 use giop_text::exception_id;
 use giop_types::{Style, Table, Told};
 use std::alloc::{AllocError, Global};
+
+/// What is printed of the values in a message's body.
+#[derive(Drop)]
+pub(crate) struct Values {
+    /// None: there are no types for it.
+    pub text: Option<String>,
+    /// How many operations of its name a request is not of.
+    pub others: usize,
+}
 
 /// The style of values in lines of a form.
 fn style_of(format: Format) -> Style {
@@ -14,44 +24,88 @@ fn style_of(format: Format) -> Style {
     }
 }
 
-/// What is told of a reply to a request for an operation.
-fn told_of_reply(
+/// What is printed where types do not fit.
+fn unfit(alloc: Global, style: Style) -> Result<Option<String>, AllocError> {
+    let text = match style {
+        Style::Words => "types do not fit",
+        Style::Json => "null",
+    };
+    Ok(Some(String::from_str(alloc, text)?))
+}
+
+/// What is printed of a request's arguments.
+fn arguments_in(
+    alloc: Global,
+    types: &Table,
+    style: Style,
+    request: &giop_core::Request,
+) -> Result<Values, AllocError> {
+    let (text, others) = match types.arguments(request.operation, &request.body)? {
+        Told::Unknown => (None, 0),
+        Told::Unfit => (unfit(alloc, style)?, 0),
+        Told::Fits(fit) => {
+            let text = fit.call_text(alloc, style, request.operation)?;
+            (Some(text), fit.place)
+        }
+    };
+    Ok(Values { text, others })
+}
+
+/// What is printed of the results of a reply to a request.
+fn results_in(
+    alloc: Global,
     types: &Table,
     style: Style,
     reply: &Reply,
-    operation: Option<&[u8]>,
-) -> Result<Told, AllocError> {
-    match (ReplyStatus::from_number(reply.status), operation) {
-        (Some(ReplyStatus::NoException), Some(operation)) => {
-            types.results(style, operation, &reply.body)
-        }
-        (Some(ReplyStatus::UserException), _) => match exception_id(&reply.body) {
-            Some(id) => types.raised(style, id, &reply.body),
-            None => Ok(Told::Unknown),
-        },
-        _ => Ok(Told::Unknown),
+    request: Option<&Request>,
+) -> Result<Option<String>, AllocError> {
+    let Some(request) = request else {
+        return Ok(None);
+    };
+    let Some(operation) = request.operation() else {
+        return Ok(None);
+    };
+    match types.results(operation, request.others(), &reply.body)? {
+        Told::Unknown => Ok(None),
+        Told::Unfit => unfit(alloc, style),
+        Told::Fits(fit) => Ok(Some(fit.results_text(alloc, style)?)),
     }
 }
 
-/// What is printed of the values in a message's body, whose request was for this operation; none where there are no
-/// types for it.
+/// What is printed of a user exception.
+fn exception_in(
+    alloc: Global,
+    types: &Table,
+    style: Style,
+    reply: &Reply,
+) -> Result<Option<String>, AllocError> {
+    let Some(id) = exception_id(&reply.body) else {
+        return Ok(None);
+    };
+    match types.raised(id, &reply.body)? {
+        Told::Unknown => Ok(None),
+        Told::Unfit => unfit(alloc, style),
+        Told::Fits(fit) => Ok(Some(fit.raised_text(alloc, style, id)?)),
+    }
+}
+
+/// What is printed of the values in a message's body, which answers this request, if it answers one.
 pub(crate) fn values_in(
     alloc: Global,
     types: &Table,
     format: Format,
     content: &Content,
-    operation: Option<&[u8]>,
-) -> Result<Option<String>, AllocError> {
+    request: Option<&Request>,
+) -> Result<Values, AllocError> {
     let style = style_of(format);
-    let told = match content {
-        Content::Request(request) => types.arguments(style, request.operation, &request.body)?,
-        Content::Reply(reply) => told_of_reply(types, style, reply, operation)?,
-        _ => Told::Unknown,
+    let text = match content {
+        Content::Request(request) => return arguments_in(alloc, types, style, request),
+        Content::Reply(reply) => match ReplyStatus::from_number(reply.status) {
+            Some(ReplyStatus::NoException) => results_in(alloc, types, style, reply, request)?,
+            Some(ReplyStatus::UserException) => exception_in(alloc, types, style, reply)?,
+            _ => None,
+        },
+        _ => None,
     };
-    match (told, style) {
-        (Told::Unknown, _) => Ok(None),
-        (Told::Unfit, Style::Words) => Ok(Some(String::from_str(alloc, "types do not fit")?)),
-        (Told::Unfit, Style::Json) => Ok(Some(String::from_str(alloc, "null")?)),
-        (Told::Text(text), _) => Ok(Some(text)),
-    }
+    Ok(Values { text, others: 0 })
 }

@@ -1,2 +1,3 @@
--- What the octets of a body are by types.
+-- What the octets of a body are by types. Tables: what a table tells of one.
 pub mod Reading
+pub mod Tables

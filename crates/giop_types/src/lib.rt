@@ -9,6 +9,7 @@ mod copies;
 mod draft;
 mod fault;
 mod fields;
+mod fit;
 mod forms;
 mod operations;
 mod plain;
@@ -28,6 +29,9 @@ pub use signature::Signature;
 // a table, and why it is refused
 pub use fault::{TypesError, Why};
 pub use table::{Table, Told};
+
+// a body as types have it
+pub use fit::Fit;
 
 // in which form values are printed
 pub use style::Style;

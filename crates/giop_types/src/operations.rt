@@ -1,5 +1,8 @@
 //! Operations and what their bodies have.
 
+ghost use Rattle.std.specs.Prelude.{◌≡◌};
+ghost use Rattle.giop_types.specs.Tables.{forms_in, side_of};
+
 use crate::signature::Signature;
 
 /// An operation of an interface: what the bodies of its requests and of its replies have.
@@ -18,7 +21,9 @@ pub(crate) enum Part {
 
 impl Operation {
     /// What the bodies of one side have.
-    pub fn side(&self, part: Part) -> &Signature {
+    pub fn side(&self, part: Part) -> &Signature
+        ensures { forms_in result.now ≡ side_of part self.now }
+    {
         match part {
             Part::Arguments => &self.arguments,
             Part::Results => &self.results,

@@ -1,6 +1,6 @@
 //! Types in order, and the values of a body.
 
-ghost use Rattle.std.specs.Prelude.{◌<◌, ◌^◌, IfOk};
+ghost use Rattle.std.specs.Prelude.{◌≡◌, ◌<◌, ◌^◌, IfOk, IfSome};
 ghost use Rattle.cdr_core.specs.Fitting.{AreValid};
 ghost use Rattle.cdr_core.specs.Validity.{are_valid_prop};
 ghost use Rattle.cdr_core.specs.View as view;
@@ -21,7 +21,9 @@ pub struct Signature {
 
 impl Signature {
     /// That of members. None: a type of them is not valid.
-    pub fn new(alloc: Global, members: Vec<Member>) -> Result<Option<Signature>, AllocError> {
+    pub fn new(alloc: Global, members: Vec<Member>) -> Result<Option<Signature>, AllocError>
+        ensures { IfOk result (λ s. IfSome s (λ s. s.members ≡ members)) }
+    {
         let forms = forms_of(alloc, &members)?;
         if !are_valid(&forms) {
             return Ok(None);
@@ -30,7 +32,9 @@ impl Signature {
     }
 
     /// The members.
-    pub fn members(&self) -> &[Member] {
+    pub fn members(&self) -> &[Member]
+        ensures { result.now ≡ self.now.members.items }
+    {
         &self.members
     }
 

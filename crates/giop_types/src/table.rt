@@ -1,11 +1,13 @@
 //! A table of types, and what it tells of bodies.
 
+ghost use Rattle.std.specs.Prelude.{◌≡◌, ◌<◌, ◌^◌, ℕ, List, [], None, drop, map, IfOk};
+ghost use Rattle.giop_types.specs.Tables.{IsTold, Tells, arguments_of, exception_of, forms_in, operations_of, raised_of, results_of, side_of};
+
 use crate::fault::TypesError;
+use crate::fit::Fit;
 use crate::operations::{Operation, Part};
-use crate::printing::{put_call, put_raised, put_results};
 use crate::reader::table_in;
 use crate::signature::Signature;
-use crate::style::Style;
 use cdr_core::Val;
 use giop_core::Body;
 use std::alloc::{AllocError, Global};
@@ -13,13 +15,13 @@ use std::collections::BTreeMap;
 
 /// What a table tells of a body.
 #[derive(Debug, Drop)]
-pub enum Told {
+pub enum Told<'t> {
     /// It has no types for it.
     Unknown,
     /// Its types are not those of the body.
     Unfit,
-    /// What the body says.
-    Text(String),
+    /// The first types whose values the body has, and these.
+    Fits(Fit<'t>),
 }
 
 /// A table of types: those of operations by their names, and of exceptions by their repository ids.
@@ -32,7 +34,9 @@ pub struct Table {
 
 impl Table {
     /// One of no types.
-    pub fn none(alloc: Global) -> Table {
+    pub fn none(alloc: Global) -> Table
+        ensures { (name : List ℕ) → (operations_of result name ≡ []) × (exception_of result name ≡ None) }
+    {
         Table {
             alloc,
             operations: BTreeMap::new(alloc),
@@ -40,7 +44,8 @@ impl Table {
         }
     }
 
-    /// The table in a text, and the operations of all objects.
+    /// The table in a text, and the operations of all objects. (Which types its lines are, and which lines are refused, is
+    /// tested.)
     pub fn read(alloc: Global, text: &[u8]) -> Result<Table, TypesError> {
         table_in(alloc, text)
     }
@@ -71,86 +76,77 @@ impl Table {
     }
 
     /// The operations of a name.
-    fn known(&self, operation: &[u8]) -> &[Operation] {
+    fn known(&self, operation: &[u8]) -> &[Operation]
+        ensures { result.now ≡ operations_of self.now operation.now }
+    {
         match self.operations.get(operation) {
             Some(known) => known,
             None => &[],
         }
     }
 
-    /// The first signature of an operation of this name whose values a body has, and the values.
-    fn first_in(
-        &self,
-        part: Part,
-        operation: &[u8],
-        body: &Body,
-    ) -> Result<Option<(&Signature, Vec<Val>)>, AllocError> {
-        for known in self.known(operation) {
-            let signature = known.side(part);
-            if let Some(values) = values_of(self.alloc, signature, body)? {
-                return Ok(Some((signature, values)));
-            }
-        }
-        Ok(None)
-    }
-
-    /// What a body tells, which is that of a request or a reply of an operation of this name.
-    fn told(
-        &self,
-        style: Style,
-        part: Part,
-        operation: &[u8],
-        body: &Body,
-    ) -> Result<Told, AllocError> {
-        if self.known(operation).is_empty() {
-            return Ok(Told::Unknown);
-        }
-        let Some((signature, values)) = self.first_in(part, operation, body)? else {
-            return Ok(Told::Unfit);
-        };
-        let mut text = String::new(self.alloc);
-        let members = signature.members();
-        match part {
-            Part::Arguments => put_call(self.alloc, style, operation, members, &values, &mut text)?,
-            Part::Results => put_results(self.alloc, style, members, &values, &mut text)?,
-        }
-        Ok(Told::Text(text))
-    }
-
     /// What the body of a request for an operation tells.
-    pub fn arguments(
-        &self,
-        style: Style,
-        operation: &[u8],
-        body: &Body,
-    ) -> Result<Told, AllocError> {
-        self.told(style, Part::Arguments, operation, body)
+    pub fn arguments(&self, operation: &[u8], body: &Body) -> Result<Told<'_>, AllocError>
+        ensures { body.now.at < 2 ^ 32 → IfOk result (λ told. IsTold (arguments_of self.now operation.now) body.now told) }
+    {
+        told_by(self.alloc, self.known(operation), Part::Arguments, body)
     }
 
-    /// What the body of a reply tells, whose request was for an operation, and which no exception is.
-    pub fn results(&self, style: Style, operation: &[u8], body: &Body) -> Result<Told, AllocError> {
-        self.told(style, Part::Results, operation, body)
+    /// What the body of a reply tells, whose request was for an operation, and which no exception is. So many operations of
+    /// that name count for none, since their arguments are not those of the request.
+    pub fn results(
+        &self,
+        operation: &[u8],
+        others: usize,
+        body: &Body,
+    ) -> Result<Told<'_>, AllocError>
+        ensures { body.now.at < 2 ^ 32 → IfOk result (λ told. IsTold (drop others (results_of self.now operation.now)) body.now told) }
+    {
+        let known = self.known(operation).get(others..).unwrap_or(&[]);
+        told_by(self.alloc, known, Part::Results, body)
     }
 
     /// What the body of a reply tells that is a user exception of this repository id.
-    pub fn raised(&self, style: Style, id: &[u8], body: &Body) -> Result<Told, AllocError> {
+    pub fn raised(&self, id: &[u8], body: &Body) -> Result<Told<'_>, AllocError>
+        ensures { body.now.at < 2 ^ 32 → IfOk result (λ told. IsTold (raised_of self.now id.now) body.now told) }
+    {
         let Some(signature) = self.exceptions.get(id) else {
             return Ok(Told::Unknown);
         };
-        let Some(values) = values_of(self.alloc, signature, body)? else {
-            return Ok(Told::Unfit);
-        };
-        let mut text = String::new(self.alloc);
-        put_raised(
-            self.alloc,
-            style,
-            id,
-            signature.members(),
-            &values,
-            &mut text,
-        )?;
-        Ok(Told::Text(text))
+        match values_of(self.alloc, signature, body)? {
+            Some(values) => Ok(Told::Fits(Fit {
+                place: 0,
+                signature,
+                values,
+            })),
+            None => Ok(Told::Unfit),
+        }
     }
+}
+
+/// What a body tells by a side of the first of operations that it fits.
+fn told_by<'t>(
+    alloc: Global,
+    known: &'t [Operation],
+    part: Part,
+    body: &Body,
+) -> Result<Told<'t>, AllocError>
+    ensures { body.now.at < 2 ^ 32 → IfOk result (λ told. IsTold (map (side_of part) known.now) body.now told) }
+{
+    if known.is_empty() {
+        return Ok(Told::Unknown);
+    }
+    for (place, operation) in known.iter().enumerate() {
+        let signature = operation.side(part);
+        if let Some(values) = values_of(alloc, signature, body)? {
+            return Ok(Told::Fits(Fit {
+                place,
+                signature,
+                values,
+            }));
+        }
+    }
+    Ok(Told::Unfit)
 }
 
 /// The values of a signature that a body has from its first octet to its last.
@@ -158,7 +154,9 @@ fn values_of(
     alloc: Global,
     signature: &Signature,
     body: &Body,
-) -> Result<Option<Vec<Val>>, AllocError> {
+) -> Result<Option<Vec<Val>>, AllocError>
+    ensures { body.now.at < 2 ^ 32 → IfOk result (λ values. Tells (forms_in signature.now) body.now values) }
+{
     match u32::try_from(body.at) {
         Ok(at) => signature.values_in(alloc, body.order, u64::from(at), body.octets),
         Err(_) => Ok(None),
