@@ -15,6 +15,7 @@ import json
 import os
 import pty
 import random
+import re
 import shutil
 import signal
 import socket
@@ -377,11 +378,10 @@ class Written:
     def __init__(self):
         self.packets, self.time = [], 1_700_000_000_000_000
 
-    def add(self, ports, place, ack, flags, octets=b""):
+    def add(self, ports, place, ack, flags, octets=b"", hosts=(1, 1)):
         self.time += 1000
         tcp = struct.pack(">HHIIBBHHH", *ports, place % (1 << 32), ack % (1 << 32), 0x50, flags, 65535, 0, 0) + octets
-        host = bytes([127, 0, 0, 1])
-        ip = struct.pack(">BBHHHBBH4s4s", 0x45, 0, 20 + len(tcp), 1, 0, 64, 6, 0, host, host)
+        ip = struct.pack(">BBHHHBBH4s4s", 0x45, 0, 20 + len(tcp), 1, 0, 64, 6, 0, *(bytes([127, 0, 0, n]) for n in hosts))
         self.packets.append((self.time, bytes(12) + b"\x08\x00" + ip + tcp))
 
     def connection(self, port, client, server, with_losses):
@@ -687,6 +687,105 @@ class Live(unittest.TestCase):
         self.assertEqual(tracer.wait(20), 0)
         reader.join(20)
         self.assertEqual(self.lines[-1]["line"], "end")
+
+
+# ------------------------------------------------------------------------------------------------- the page
+
+PAGE = os.path.join(programs.ROOT, "docs", "CLI.md")
+EXAMPLE = "examples/bank.pcap"
+TYPES = os.path.join(programs.HERE, "cases", "trace", "bank.types")
+
+
+class Line:
+    """A connection in packets that are written by hand, on loopback: its peers are the last octets of addresses."""
+
+    def __init__(self, made, client, port, server):
+        self.made, self.ports, self.hosts, self.sent = made, (port, 2809), (client, server), [100, 500]
+        for side, flags in ((0, SYN), (1, SYN | ACK)):
+            self.packet(side, flags, back=1)
+
+    def packet(self, side, flags, octets=b"", back=0):
+        turn = 1 - 2 * side
+        self.made.add(self.ports[::turn], self.sent[side] - back, self.sent[1 - side], flags, octets, self.hosts[::turn])
+        self.sent[side] += len(octets)
+
+    def say(self, side, octets, after=400):
+        """A side sends octets so many microseconds later."""
+        self.made.time += after
+        self.packet(side, ACK, octets)
+
+
+def amount_of(value):
+    return lambda out: out.longlong(value)
+
+
+def deposit(request_id, number, amount):
+    def put(out):
+        out.string("savings")
+        out.longlong(amount)
+    return giop.request(request_id, b"bank", "deposit", put, contexts=[giop.ft_request("teller", number, 200_000_000_000_000_000)])
+
+
+def example():
+    """The packets of examples/bank.pcap: two clients of a bank, one of which loses its connection and calls again at another
+    address."""
+    made = Written()
+    first = Line(made, 2, 40001, 9)
+    first.say(0, deposit(1, 1, 700))
+    first.say(1, giop.reply(1, amount_of(700)))
+    other = Line(made, 3, 40002, 9)
+    other.say(0, giop.locate(1, b"bank"))
+    other.say(1, giop.located(1, giop.OBJECT_HERE))
+    first.say(0, deposit(2, 2, 50))
+    made.time += 200_000
+    first.packet(1, RST | ACK)
+    again = Line(made, 2, 40003, 10)
+    again.say(0, deposit(1, 2, 50))
+    again.say(1, giop.reply(1, amount_of(750)))
+    for octets in giop.cut(giop.request(2, b"bank", "balance", lambda out: out.string("savings")), [44]):
+        other.say(0, octets)
+    other.say(1, giop.reply(2, amount_of(750)), after=1_500_000)
+    again.say(0, deposit(2, 3, -900))
+
+    def overdrawn(out):
+        out.string("IDL:Bank/Overdrawn:1.0")
+        out.longlong(750)
+    again.say(1, giop.reply(2, overdrawn, status=giop.USER_EXCEPTION))
+    other.say(0, giop.request(3, b"bank", "audit"))
+    other.say(1, giop.system_exception(3, "BAD_OPERATION"))
+    other.say(0, giop.request(4, b"bank", "balance", lambda out: out.string("savings")))
+    again.say(1, giop.CLOSE_CONNECTION)
+    return made
+
+
+class Page(unittest.TestCase):
+    """What docs/CLI.md shows of examples/bank.pcap."""
+
+    def test_example(self):
+        """The recording has the packets that are said here."""
+        with tempfile.TemporaryDirectory() as folder:
+            path = os.path.join(folder, "made.pcap")
+            example().file(path)
+            with open(path, "rb") as made, open(os.path.join(programs.ROOT, EXAMPLE), "rb") as kept:
+                self.assertEqual(made.read(), kept.read())
+
+    @programs.needs("tshark")
+    def test_page(self):
+        """Each command prints what stands behind it."""
+        giop_program = programs.program("GIOP")
+        with open(PAGE, encoding="utf-8") as file:
+            page = file.read().partition("### Reading a capture\n")[2].partition("\n### ")[0]
+        text = base.ran(SCRIPT, os.path.join(programs.ROOT, EXAMPLE), "--yaml", seconds=120).stdout
+        shown = page.split(f"    $ ./giop-capture {EXAMPLE} ")[1:]
+        self.assertEqual(len(shown), 6)
+        for block in shown:
+            words, *lines = block.partition("\n\n")[0].split("\n    ")
+            options = [TYPES if word == "bank.types" else word for word in words.split()]
+            run = base.ran(giop_program, "trace", *options, given=text)
+            # (`..` stands for lines that are left out)
+            wanted = "".join(".*" if line == ".." else re.escape(line + "\n") for line in lines)
+            self.assertRegex(run.stdout.decode(), re.compile(wanted + r"\Z", re.DOTALL), words)
+            self.assertEqual((run.returncode, run.stderr), (0, b""))
 
 
 # ------------------------------------------------------------------------------------------------- pictures

@@ -45,7 +45,7 @@ pub(crate) struct Direction {
     passed: u64,
     /// Whether Fragments whose message did not begin are passed over, as some beginnings were.
     forgives: bool,
-    frames: Frames,
+    pub frames: Frames,
 }
 
 /// How the octets of a side are read.
@@ -74,11 +74,6 @@ impl Direction {
     /// The place after what has come.
     pub fn taken(&self) -> u64 {
         self.taken
-    }
-
-    /// In how many frames the last message came that is whole.
-    pub fn frames(&self) -> u64 {
-        self.frames.last()
     }
 
     /// Lets the stream begin anew.

@@ -114,8 +114,8 @@ impl Open {
     /// In how many frames the last message of a side came.
     pub fn frames(&self, sender: Sender) -> u64 {
         match sender {
-            Sender::Opener => self.opener.frames(),
-            Sender::Acceptor => self.acceptor.frames(),
+            Sender::Opener => self.opener.frames.last(),
+            Sender::Acceptor => self.acceptor.frames.last(),
         }
     }
 
