@@ -100,7 +100,7 @@ class Packets(trace.Session):
         """What is to be printed of each message, with what the packets tell."""
         beginning, all_of = self.beginning(), []
         for one, (frame, time) in zip(super().objects(), self.stamps):
-            one["frame"] = frame
+            one["frame"], one["opener"] = frame, "127.0.0.1:1"
             if time is not None:
                 one["time"] = clock(time)
                 if time >= beginning:
@@ -269,10 +269,10 @@ CHOICES = {
 
 
 def at(percent, latencies):
-    """The least latency that so many of a hundred do not go over, with its first eight binary digits."""
+    """The least latency that so many of a hundred do not go over, rounded up to eight binary digits, but not over all."""
     found = sorted(latencies)[-(-len(latencies) * percent // 100) - 1]
-    shift = max(0, found.bit_length() - 8)
-    return found >> shift << shift
+    unit = 1 << max(0, found.bit_length() - 8)
+    return min(-(-found // unit) * unit, max(latencies))
 
 
 def calls_of(objects):
@@ -850,6 +850,26 @@ class Pictures(unittest.TestCase):
         for wrong in (["more.pcap"], ["-i", "lo"]):
             run = self.capture(*wrong)
             self.assertEqual((run.returncode, run.stdout), (2, b""))
+
+    @programs.needs("tshark")
+    def test_repeat(self):
+        """A call is told over all its transmissions, whichever of them is given."""
+        self.retried()
+        first, again = (self.capture("--call", number) for number in ("1", "2"))
+        self.assertEqual((first.returncode, first.stdout.count(b"operation add")), (0, 2))
+        self.assertEqual((again.returncode, again.stdout), (0, first.stdout))
+        path = os.path.join(self.folder, "way.svg")
+        self.capture("--call", "2", "--picture", path)
+        self.assertEqual(xml.etree.ElementTree.parse(path).getroot().findtext(SVG + "title"),
+                         "Request 1, add, sent: 2, answered: 1")
+
+    @programs.needs("tshark")
+    def test_help(self):
+        """The help has the options of `giop trace` too."""
+        run = self.capture("--help")
+        self.assertEqual(run.returncode, 0)
+        for word in (b"--picture", b"--unanswered", b"--summary"):
+            self.assertIn(word, run.stdout)
 
     @programs.needs("tshark")
     def test_none(self):

@@ -8,7 +8,7 @@ use crate::json_parts::{
 };
 use crate::objects::Objects;
 use crate::printing::Printer;
-use crate::reports::{caught_time, direction_name, frame_of, put_object_with};
+use crate::reports::{address_text, caught_time, direction_name, frame_of, put_object_with};
 use crate::shown::Shown;
 use cdr_core::Order;
 use giop_core::{
@@ -52,6 +52,10 @@ struct MessageObject {
     latency: Option<u64>,
     #[serde(skip_serializing_if = "Option::is_none")]
     forward: Option<ForwardObject>,
+    #[serde(skip_serializing_if = "Option::is_none")]
+    opener: Option<String>,
+    #[serde(skip_serializing_if = "Option::is_none")]
+    acceptor: Option<String>,
     #[serde(skip_serializing_if = "Option::is_none")]
     body: Option<String>,
     #[serde(skip_serializing_if = "Option::is_none")]
@@ -112,6 +116,8 @@ fn bare_object(alloc: Global, shown: &Shown) -> MessageObject {
         since: None,
         latency: None,
         forward: None,
+        opener: None,
+        acceptor: None,
         body: None,
         text: None,
         frames: (shown.frames > 1).then_some(shown.frames),
@@ -278,6 +284,8 @@ fn set_caught(
     object.since = caught.since();
     object.latency = caught.latency;
     object.forward = forward_object(printer.alloc, content, objects)?;
+    object.opener = address_text(printer.alloc, caught.ends.opener)?;
+    object.acceptor = address_text(printer.alloc, caught.ends.acceptor)?;
     if printer.has_bodies
         && let Some(octets) = body_in(content)
     {

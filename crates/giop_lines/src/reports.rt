@@ -193,7 +193,7 @@ pub(crate) fn put_closed(
 }
 
 /// The text of an address, if it is known.
-fn address_text(alloc: Global, address: &[u8]) -> Result<Option<String>, AllocError> {
+pub(crate) fn address_text(alloc: Global, address: &[u8]) -> Result<Option<String>, AllocError> {
     if address.is_empty() {
         return Ok(None);
     }

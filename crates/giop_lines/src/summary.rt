@@ -13,7 +13,7 @@ pub struct Row {
     /// Octets of the bodies of requests, and of answers.
     pub asked: u64,
     pub answered: u64,
-    /// How many answers came so late, by their latencies with eight binary digits, or one.
+    /// How many answers came so late, by their latencies, rounded up to eight binary digits, or one.
     pub latencies: BTreeMap<u64, u64>,
     /// The greatest latency.
     pub greatest: Option<u64>,
@@ -129,7 +129,7 @@ const MOST_ROWS: usize = 65_536;
 struct Room {
     /// Octets of keys, operations and names of exceptions.
     octets: u64,
-    /// Latencies with eight binary digits.
+    /// Latencies of eight binary digits.
     latencies: u64,
 }
 
@@ -162,7 +162,7 @@ impl Room {
     }
 }
 
-/// A latency with its first binary digits: those of the numbers below `scale`, a power of two.
+/// A latency rounded up to its first binary digits: those of the numbers below `scale`, a power of two.
 fn rounded(latency: u64, scale: u64) -> u64 {
     let mut unit = 1u64;
     let mut left = latency;
@@ -173,7 +173,12 @@ fn rounded(latency: u64, scale: u64) -> u64 {
         left /= 2;
         unit = unit.saturating_mul(2);
     }
-    left.saturating_mul(unit)
+    let below = left.saturating_mul(unit);
+    if below < latency {
+        below.saturating_add(unit)
+    } else {
+        latency
+    }
 }
 
 /// Counts one more.
@@ -186,7 +191,7 @@ fn count_one(counts: &mut BTreeMap<u64, u64>, latency: u64) -> Result<(), AllocE
     Ok(())
 }
 
-/// Counts one more latency: by its first eight binary digits, or by one.
+/// Counts one more latency, rounded up to eight binary digits, or to one.
 fn count_latency(
     counts: &mut BTreeMap<u64, u64>,
     latency: u64,
@@ -244,8 +249,8 @@ impl Row {
         }
     }
 
-    /// The least latency that so many of a hundred answers do not go over, with eight binary digits. None: no latency is
-    /// known.
+    /// The least latency that so many of a hundred answers do not go over, rounded up to eight binary digits, but not over
+    /// the greatest. None: no latency is known.
     pub fn latency_at(&self, percent: u64) -> Option<u64> {
         let mut all = 0u64;
         for count in self.latencies.values() {
@@ -256,7 +261,7 @@ impl Row {
         for (latency, count) in &self.latencies {
             seen = seen.saturating_add(*count);
             if seen >= rank {
-                return Some(*latency);
+                return Some(self.greatest.map_or(*latency, |most| most.min(*latency)));
             }
         }
         None

@@ -102,7 +102,8 @@ impl Table {
     ) -> Result<Told<'_>, AllocError>
         ensures { body.now.at < 2 ^ 32 → IfOk result (λ told. IsTold (drop others (results_of self.now operation.now)) body.now told) }
     {
-        let known = self.known(operation).get(others..).unwrap_or(&[]);
+        let known = self.known(operation);
+        let (_, known) = known.split_at(others.min(known.len()));
         told_by(self.alloc, known, Part::Results, body)
     }
 
