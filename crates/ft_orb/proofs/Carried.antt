@@ -1,5 +1,5 @@
 -- What Replies with service contexts take, and what of them is as without.
-use Rattle.std.proofs.Common.{◌≡◌, ◌==◌, ◌∙◌, ◌||◌, ap, refl, sym, ℕ, ◌+◌, ◌*◌, ◌-◌, ◌%◌, ◌<◌, ◌≤◌, ◌^◌, Bool, true, false, arith, List, [], ◌∷◌, ◌++◌, length, length-append, drop, get_or, slice_index_or, replicate, cond, subst, Option, Some, None, Result, Ok, Err, IfErr, IfSome, OnOk}
+use Rattle.std.proofs.Common.{◌≡◌, ◌==◌, ◌∙◌, ◌||◌, ap, refl, sym, ℕ, ◌+◌, ◌*◌, ◌-◌, ◌%◌, ◌<◌, ◌≤◌, ◌^◌, Bool, true, false, arith, List, [], ◌∷◌, ◌++◌, length, length-append, drop, get_or, slice_index_or, replicate, cond, subst, Option, Some, None, Result, Ok, Err, IfErr, IfSome}
 use Rattle.std.proofs.lemmas.List.{append-nil, drop_more, length-replicate}
 use Rattle.std.proofs.lemmas.Nat.{mod_below}
 use Rattle.std.specs.Option.{option_map}
@@ -144,12 +144,6 @@ short_written contexts version order id status body (Err TooLong) old new few sh
     let long = wrote.0 in
     absurd (omega (arith, long, carried-short version order id status contexts body few short))
 short_written contexts version order id status body (Err Memory) old new few short wrote = (refl, wrote)
-
--- a message that is written is appended
-pub reply_written : {A : Type 0} (contexts : List (ℕ × List ℕ)) (version : Version) (order : Order) (id status : ℕ) (body : Values) (r : Result A WriteError) (old new : List ℕ) →
-    Wrote version Reply order (behind_header version Reply order (reply_fields version id status contexts) body) r old new → OnOk r (new ≡ old ++ reply_carrying contexts version order id status body)
-reply_written contexts version order id status body (Ok x) old new wrote = wrote.1
-reply_written contexts version order id status body (Err e) old new wrote = tt
 
 -- a header is there in each case
 pub reply_has_octets : (contexts : List (ℕ × List ℕ)) (version : Version) (order : Order) (id status : ℕ) (body : Values) → 0 < length (reply_carrying contexts version order id status body)

@@ -17,7 +17,7 @@ use ft_log::{Completion, Outcome, SystemName};
 use ft_objects::{Catalogue, Lookup};
 
 /// The place where the body of a Reply begins (GIOP 9.4.1, GIOP 9.4.3).
-const BODY: u64 = 24;
+pub(crate) const BODY: u64 = 24;
 
 /// The most octets that a body takes.
 const MOST: u64 = 1_048_576;
