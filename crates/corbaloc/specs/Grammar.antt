@@ -15,6 +15,10 @@ IsFree mark text = (i : ℕ) → i < length text → slice_index text i ≢ mark
 abbrev pub IsCut : ℕ → List ℕ → List ℕ → List ℕ → Type 0
 IsCut mark text first rest = (text ≡ first ++ mark ∷ rest) × IsFree mark first
 
+-- a part of the text, and what follows from its first such octet on, if it has one
+abbrev pub IsUntil : ℕ → List ℕ → List ℕ → List ℕ → Type 0
+IsUntil mark text first rest = (text ≡ first ++ rest) × IsFree mark first × ((rest ≡ []) ⊎ ((more : List ℕ) × (rest ≡ mark ∷ more)))
+
 -- decimal digits and their number
 abbrev pub SpellsNumber : List ℕ → ℕ → Type 0
 SpellsNumber digits n = IsNumeral 10 digits × (digits_value 10 digits ≡ n)
@@ -48,10 +52,10 @@ is_of_ipv6 octet = is_ascii_hexdigit octet || list_any (λ x. x == octet) (codes
 abbrev pub IsHostOf : (ℕ → Bool) → List ℕ → Type 0
 IsHostOf test host = (0 < length host) × IsTrue (list_all test host)
 
--- a host, and what stands behind it; brackets are round an IPv6 address and are no part of it
+-- A host, and what stands behind it: a name up to a colon, or in brackets an IPv6 address, of which these are no part.
 abbrev pub SpellsHost : List ℕ → List ℕ → List ℕ → Type 0
 SpellsHost text host behind =
-    ((text ≡ host ++ behind) × IsHostOf is_of_name host) ⊎ ((text ≡ 91 ∷ (host ++ 93 ∷ behind)) × IsHostOf is_of_ipv6 host)
+    (IsUntil 58 text host behind × IsHostOf is_of_name host) ⊎ ((inside : List ℕ) × (text ≡ 91 ∷ inside) × IsCut 93 inside host behind × IsHostOf is_of_ipv6 host)
 
 -- a colon and a port; the port is 2809 where they are left out
 abbrev pub SpellsPort : List ℕ → ℕ → Type 0
@@ -75,9 +79,9 @@ SpellsAddresses text (one ∷ two ∷ more) = (first rest : List ℕ) × IsCut 4
 abbrev pub SpellsEnd : List ℕ → List ℕ → List ℕ → Type 0
 SpellsEnd text addresses key = (IsFree 47 text × (addresses ≡ text) × (key ≡ [])) ⊎ IsCut 47 text addresses key
 
--- the octets of a key that stand for themselves
+-- the octets of a key that stand for themselves; 63 is the question mark
 abbrev pub is_plain : ℕ → Bool
-is_plain octet = is_ascii_alphanumeric octet || list_any (λ x. x == octet) (codes ";/:?@&=+$,-_.!~*'()")
+is_plain octet = is_ascii_alphanumeric octet || list_any (λ x. x == octet) (codes ";/:" ++ 63 ∷ codes "@&=+$,-_.!~*'()")
 
 -- an octet that stands for itself, or a % and two hexadecimal digits, and what follows
 abbrev pub TakesOctet : List ℕ → ℕ → List ℕ → Type 0

@@ -1,5 +1,5 @@
 -- The reference that a location stands for: an IIOP profile for each address.
-use Rattle.std.specs.Prelude.{ℕ, List, [], ◌∷◌, ◌++◌}
+use Rattle.std.specs.Prelude.{ℕ, List, [], ◌∷◌}
 use Rattle.cdr_core.specs.Parts.{octet_value, ushort_value}
 use Rattle.cdr_core.specs.Value as value
 use Rattle.cdr_core.specs.Value.{Value, values}

@@ -1,6 +1,7 @@
 //! Addresses of locations.
 
-ghost use Rattle.std.specs.Prelude.{IfOk, IfSome};
+ghost use Rattle.std.specs.Prelude.{◌≢◌, ℕ, IfErr, IfNone, IfOk, IfSome};
+ghost use Rattle.corbaloc.specs.Faults.{IsAddressFault, IsAddressesFault, IsProtocolFault, IsVersionFault};
 ghost use Rattle.corbaloc.specs.Grammar.{IsVersion, SpellsAddress, SpellsAddresses, SpellsProtocol, SpellsVersion};
 
 use crate::error::LocationError;
@@ -19,7 +20,8 @@ pub struct Address {
 
 /// What follows the protocol of an address, which begins at this place.
 fn after_protocol(at: usize, text: &str) -> Result<&str, LocationError>
-    ensures { IfOk result (λ rest. SpellsProtocol text.now rest.now) }
+    ensures spelled { IfOk result (λ rest. SpellsProtocol text.now rest.now) }
+    ensures refused { IfErr result (λ e. IsProtocolFault at text.now e) }
 {
     let (protocol, rest) = cut(text, ':').ok_or(LocationError::UnknownProtocol(at))?;
     if protocol.is_empty() {
@@ -34,7 +36,8 @@ fn after_protocol(at: usize, text: &str) -> Result<&str, LocationError>
 
 /// The minor version of a version 1.
 fn minor_of(version: &str) -> Option<u8>
-    ensures { IfSome result (λ minor. IsVersion version.now minor) }
+    ensures found { IfSome result (λ minor. IsVersion version.now minor) }
+    ensures none { IfNone result ((minor : ℕ) → IsVersion version.now minor → ⊥) }
 {
     let (major, minor) = cut(version, '.')?;
     if number(major)? != 1 {
@@ -45,7 +48,8 @@ fn minor_of(version: &str) -> Option<u8>
 
 /// The minor version of an address, and what follows the version, which begins at this place.
 fn after_version(at: usize, text: &str) -> Result<(u8, &str), LocationError>
-    ensures { IfOk result (λ x. SpellsVersion text.now x.0 x.1.now) }
+    ensures spelled { IfOk result (λ x. SpellsVersion text.now x.0 x.1.now) }
+    ensures refused { IfErr result (λ e. IsVersionFault at text.now e) }
 {
     match cut(text, '@') {
         Some((version, rest)) => {
@@ -58,7 +62,8 @@ fn after_version(at: usize, text: &str) -> Result<(u8, &str), LocationError>
 
 /// The address that a text spells, which begins at this place.
 fn address_in(alloc: Global, at: usize, text: &str) -> Result<Address, LocationError>
-    ensures { IfOk result (λ one. SpellsAddress text.now one) }
+    ensures spelled { IfOk result (λ one. SpellsAddress text.now one) }
+    ensures refused { IfErr result (λ e. e ≢ LocationError.Memory → IsAddressFault at text.now e) }
 {
     let rest = after_protocol(at, text)?;
     let (minor, place) = after_version(place_of(at, text.len(), rest.len()), rest)?;
@@ -68,13 +73,13 @@ fn address_in(alloc: Global, at: usize, text: &str) -> Result<Address, LocationE
 }
 
 /// The addresses that a text spells, which begin at this place.
-#[tactic(auto, using(crate::proofs::Steps::address_step, crate::proofs::Steps::address_end))]
 pub(crate) fn addresses_in(
     alloc: Global,
     at: usize,
     text: &str,
 ) -> Result<Vec<Address>, LocationError>
-    ensures { IfOk result (λ all. SpellsAddresses text.now all.items) }
+    ensures spelled { IfOk result (λ all. SpellsAddresses text.now all.items) }
+    ensures refused { IfErr result (λ e. e ≢ LocationError.Memory → IsAddressesFault at text.now e) }
 {
     let mut all = Vec::new(alloc);
     let mut left = text;

@@ -1,11 +1,12 @@
 //! Hosts and ports.
 
-ghost use Rattle.std.specs.Prelude.{◌≡◌, ◌↔◌, ◌++◌, ◌∷◌, IfOk, IfSome, IsTrue};
+ghost use Rattle.std.specs.Prelude.{◌≡◌, ◌↔◌, ℕ, List, IfErr, IfNone, IfOk, IfSome, IsTrue};
 ghost use Rattle.std.specs.List.{list_all};
-ghost use Rattle.corbaloc.specs.Grammar.{is_of_ipv6, is_of_name, IsHostOf, SpellsHost, SpellsPlace, SpellsPort};
+ghost use Rattle.corbaloc.specs.Faults.{IsPlaceFault};
+ghost use Rattle.corbaloc.specs.Grammar.{is_of_ipv6, is_of_name, IsCut, IsHostOf, IsUntil, SpellsHost, SpellsPlace, SpellsPort};
 
 use crate::error::LocationError;
-use crate::places::{cut, number, place_of};
+use crate::places::{cut, number, place_of, until};
 
 /// The port of an address that has none.
 const DEFAULT_PORT: u16 = 2809;
@@ -54,7 +55,8 @@ fn is_ipv6(text: &str) -> bool
 
 /// The port in what stands behind a host.
 fn port_of(behind: &str) -> Option<u16>
-    ensures { IfSome result (λ port. SpellsPort behind.now port) }
+    ensures found { IfSome result (λ port. SpellsPort behind.now port) }
+    ensures none { IfNone result ((port : ℕ) → SpellsPort behind.now port → ⊥) }
 {
     if behind.is_empty() {
         return Some(DEFAULT_PORT);
@@ -63,31 +65,41 @@ fn port_of(behind: &str) -> Option<u16>
     (port != 0).then_some(port)
 }
 
-/// The host in brackets whose first one is before the text, and what stands behind them.
+/// The host in brackets of which the first one is before the text, and what stands behind them.
 fn bracketed(inside: &str) -> Option<(&str, &str)>
-    ensures { IfSome result (λ x. (inside.now ≡ x.0.now ++ 93 ∷ x.1.now) × IsHostOf is_of_ipv6 x.0.now) }
+    ensures found { IfSome result (λ x. IsCut 93 inside.now x.0.now x.1.now × IsHostOf is_of_ipv6 x.0.now) }
+    ensures none { IfNone result ((host behind : List ℕ) → IsCut 93 inside.now host behind → IsHostOf is_of_ipv6 host → ⊥) }
 {
     let (host, behind) = cut(inside, ']')?;
     is_ipv6(host).then_some((host, behind))
 }
 
-/// The host that is a name, and what stands behind it from the first colon on.
+/// The host that is a name, and what stands behind it, from a colon on.
 fn named(text: &str) -> Option<(&str, &str)>
-    ensures { IfSome result (λ x. (text.now ≡ x.0.now ++ x.1.now) × IsHostOf is_of_name x.0.now) }
+    ensures found { IfSome result (λ x. IsUntil 58 text.now x.0.now x.1.now × IsHostOf is_of_name x.0.now) }
+    ensures none { IfNone result ((host behind : List ℕ) → IsUntil 58 text.now host behind → IsHostOf is_of_name host → ⊥) }
 {
-    let (host, behind) = text.split_at(text.find(':').unwrap_or(text.len()));
+    let (host, behind) = until(text, ':');
     is_name(host).then_some((host, behind))
+}
+
+/// The host of an address, and what stands behind it.
+fn split_host(text: &str) -> Option<(&str, &str)>
+    ensures found { IfSome result (λ x. SpellsHost text.now x.0.now x.1.now) }
+    ensures none { IfNone result ((host behind : List ℕ) → SpellsHost text.now host behind → ⊥) }
+{
+    match text.strip_prefix('[') {
+        Some(inside) => bracketed(inside),
+        None => named(text),
+    }
 }
 
 /// The host and the port of an address, which begin at this place.
 pub(crate) fn host_and_port(at: usize, text: &str) -> Result<(&str, u16), LocationError>
-    ensures { IfOk result (λ x. SpellsPlace text.now x.0.now x.1) }
+    ensures spelled { IfOk result (λ x. SpellsPlace text.now x.0.now x.1) }
+    ensures refused { IfErr result (λ e. IsPlaceFault at text.now e) }
 {
-    let found = match text.strip_prefix('[') {
-        Some(inside) => bracketed(inside),
-        None => named(text),
-    };
-    let (host, behind) = found.ok_or(LocationError::BadHost(at))?;
+    let (host, behind) = split_host(text).ok_or(LocationError::BadHost(at))?;
     let place = place_of(at, text.len(), behind.len());
     let port = port_of(behind).ok_or(LocationError::BadPort(place))?;
     Ok((host, port))

@@ -1,7 +1,8 @@
 //! Keys of locations.
 
-ghost use Rattle.std.specs.Prelude.{◌≡◌, ◌<◌, ◌+◌, ◌*◌, ℕ, List, length, IfErr, IfOk, IfSome, MatchOption};
+ghost use Rattle.std.specs.Prelude.{◌≡◌, ◌≢◌, ◌<◌, ◌+◌, ◌*◌, ℕ, List, length, slice_index, IfErr, IfOk, IfSome, MatchOption};
 ghost use Rattle.std.specs.Char.{digit_value};
+ghost use Rattle.corbaloc.specs.Faults.{IsKeyFault};
 ghost use Rattle.corbaloc.specs.Grammar.{is_plain, SpellsKey, TakesOctet};
 
 use crate::error::LocationError;
@@ -40,6 +41,8 @@ fn first_octet(at: usize, text: &[u8]) -> Result<(u8, &[u8]), LocationError>
     ensures spelled { IfOk result (λ x. TakesOctet text.now x.0 x.1.now) }
     ensures shorter { IfOk result (λ x. length x.1.now < length text.now) }
     ensures refused { IfErr result (λ e. (octet : ℕ) (rest : List ℕ) → TakesOctet text.now octet rest → ⊥) }
+    ensures escape { IfErr result (λ e. slice_index text.now 0 ≡ 37 → e ≡ LocationError.BadEscape at) }
+    ensures unescaped { IfErr result (λ e. slice_index text.now 0 ≢ 37 → e ≡ LocationError.Unescaped at) }
 {
     match text {
         [b'%', high, low, rest @ ..] => {
@@ -53,9 +56,9 @@ fn first_octet(at: usize, text: &[u8]) -> Result<(u8, &[u8]), LocationError>
 }
 
 /// The octets of the key that a text spells, which begins at this place.
-#[tactic(auto, using(crate::proofs::Steps::octet_step, crate::proofs::Steps::key_end))]
 pub(crate) fn key_in(alloc: Global, at: usize, text: &[u8]) -> Result<Vec<u8>, LocationError>
-    ensures { IfOk result (λ key. SpellsKey text.now key.items) }
+    ensures spelled { IfOk result (λ key. SpellsKey text.now key.items) }
+    ensures refused { IfErr result (λ e. e ≢ LocationError.Memory → IsKeyFault at text.now e) }
 {
     let mut key = Vec::new(alloc);
     let mut left = text;

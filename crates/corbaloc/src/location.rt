@@ -1,6 +1,7 @@
 //! Locations.
 
-ghost use Rattle.std.specs.Prelude.{IfOk, IfSome};
+ghost use Rattle.std.specs.Prelude.{◌≢◌, ℕ, List, IfErr, IfNone, IfOk, IfSome};
+ghost use Rattle.corbaloc.specs.Faults.{IsFault};
 ghost use Rattle.corbaloc.specs.Grammar.{SpellsEnd, SpellsLocation, SpellsScheme};
 
 use crate::address::{Address, addresses_in};
@@ -19,7 +20,8 @@ pub struct Location {
 
 /// What follows `corbaloc:`, whose letters may be in either case.
 fn after_scheme(text: &str) -> Option<&str>
-    ensures { IfSome result (λ rest. SpellsScheme text.now rest.now) }
+    ensures found { IfSome result (λ rest. SpellsScheme text.now rest.now) }
+    ensures none { IfNone result ((rest : List ℕ) → SpellsScheme text.now rest → ⊥) }
 {
     let (scheme, rest) = cut(text, ':')?;
     scheme.eq_ignore_ascii_case("corbaloc").then_some(rest)
@@ -42,8 +44,13 @@ fn before_key(text: &str) -> (&str, &str)
 /// These are own rules: a host is not empty, has letters, digits, `-`, `.` and `_` or in brackets
 /// hexadecimal digits, `:` and `.`, and is not looked at further; numbers may begin with zeros; no
 /// address may be `rir:` or of another protocol; octets after `#` are no fragment.
+///
+/// A text that is refused spells no location. The error is the first reason from the left, with its
+/// place; `Memory` comes as soon as an allocation fails, and says nothing of the text.
 pub fn parse_location(alloc: Global, text: &str) -> Result<Location, LocationError>
-    ensures { IfOk result (λ location. SpellsLocation text.now location) }
+    ensures spelled { IfOk result (λ location. SpellsLocation text.now location) }
+    ensures refused { IfErr result (λ e. e ≢ LocationError.Memory → (location : Location) → SpellsLocation text.now location → ⊥) }
+    ensures fault { IfErr result (λ e. e ≢ LocationError.Memory → IsFault text.now e) }
 {
     let rest = after_scheme(text).ok_or(LocationError::NoPrefix)?;
     let (addresses, key) = before_key(rest);
