@@ -34,33 +34,33 @@ operations_of t name = option_map_or (λ v. v.items) (at t.operations name) []
 abbrev pub exception_of : Table → List ℕ → Option Signature
 exception_of t id = at t.exceptions id
 
--- the types of the arguments of each operation of a name, and of its results; and of an exception, if there is one
-abbrev pub arguments_of : Table → List ℕ → List Forms
-arguments_of t name = map (λ o. forms_in o.arguments) (operations_of t name)
+-- the arguments of each operation of a name, and its results; and the members of an exception, if there is one
+abbrev pub arguments_of : Table → List ℕ → List Signature
+arguments_of t name = map (λ o. o.arguments) (operations_of t name)
 
-abbrev pub results_of : Table → List ℕ → List Forms
-results_of t name = map (λ o. forms_in o.results) (operations_of t name)
+abbrev pub results_of : Table → List ℕ → List Signature
+results_of t name = map (λ o. o.results) (operations_of t name)
 
-abbrev pub raised_of : Table → List ℕ → List Forms
-raised_of t id = option_map_or (λ s. forms_in s ∷ []) (exception_of t id) []
+abbrev pub raised_of : Table → List ℕ → List Signature
+raised_of t id = option_map_or (λ s. s ∷ []) (exception_of t id) []
 
--- what types have of a whole body
-abbrev pub Tells : Forms → Body → Option (Vec Val Global) → Type 0
-Tells ts b values = Has ts b.order b.at b.octets.now values
+-- what the types of a signature have of a whole body
+abbrev pub Tells : Signature → Body → Option (Vec Val Global) → Type 0
+Tells s b values = Has (forms_in s) b.order b.at b.octets.now values
 
 -- none of them has values of it
-abbrev pub TellNone : List Forms → Body → Type 0
-TellNone tss b = AllByRecursion (λ ts. Tells ts b None) tss
+abbrev pub TellNone : List Signature → Body → Type 0
+TellNone all b = AllByRecursion (λ s. Tells s b None) all
 
--- what is told of a body by types in order: that there are none; that none fit; or the values of the first that do
-abbrev pub IsTold : List Forms → Body → Told → Type 0
-IsTold tss b Unknown = tss ≡ []
-IsTold tss b Unfit = (tss ≢ []) × TellNone tss b
-IsTold tss b (Fits f) = TellNone (take f.place tss) b × (slice_get tss f.place ≡ Some (forms_in f.signature.now)) × Tells (forms_in f.signature.now) b (Some f.values)
+-- what is told of a body by signatures in order: that there are none; that none fit; or the first that does, and its values
+abbrev pub IsTold : List Signature → Body → Told → Type 0
+IsTold all b Unknown = all ≡ []
+IsTold all b Unfit = (all ≢ []) × TellNone all b
+IsTold all b (Fits f) = TellNone (take f.place all) b × (slice_get all f.place ≡ Some f.signature.now) × Tells f.signature.now b (Some f.values)
 
 -- words of the code's own
 
--- the types of a side of an operation
-abbrev pub side_of : Part → Operation → Forms
-side_of Arguments o = forms_in o.arguments
-side_of Results o = forms_in o.results
+-- a side of an operation
+abbrev pub side_of : Part → Operation → Signature
+side_of Arguments o = o.arguments
+side_of Results o = o.results

@@ -1,7 +1,7 @@
 //! Operations and what their bodies have.
 
 ghost use Rattle.std.specs.Prelude.{◌≡◌};
-ghost use Rattle.giop_types.specs.Tables.{forms_in, side_of};
+ghost use Rattle.giop_types.specs.Tables.{side_of};
 
 use crate::signature::Signature;
 
@@ -22,7 +22,7 @@ pub(crate) enum Part {
 impl Operation {
     /// What the bodies of one side have.
     pub fn side(&self, part: Part) -> &Signature
-        ensures { forms_in result.now ≡ side_of part self.now }
+        ensures { result.now ≡ side_of part self.now }
     {
         match part {
             Part::Arguments => &self.arguments,

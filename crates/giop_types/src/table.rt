@@ -1,7 +1,7 @@
 //! A table of types, and what it tells of bodies.
 
 ghost use Rattle.std.specs.Prelude.{◌≡◌, ◌<◌, ◌^◌, ℕ, List, [], None, drop, map, IfOk};
-ghost use Rattle.giop_types.specs.Tables.{IsTold, Tells, arguments_of, exception_of, forms_in, operations_of, raised_of, results_of, side_of};
+ghost use Rattle.giop_types.specs.Tables.{IsTold, Tells, arguments_of, exception_of, operations_of, raised_of, results_of, side_of};
 
 use crate::fault::TypesError;
 use crate::fit::Fit;
@@ -156,7 +156,7 @@ fn values_of(
     signature: &Signature,
     body: &Body,
 ) -> Result<Option<Vec<Val>>, AllocError>
-    ensures { body.now.at < 2 ^ 32 → IfOk result (λ values. Tells (forms_in signature.now) body.now values) }
+    ensures { body.now.at < 2 ^ 32 → IfOk result (λ values. Tells signature.now body.now values) }
 {
     match u32::try_from(body.at) {
         Ok(at) => signature.values_in(alloc, body.order, u64::from(at), body.octets),

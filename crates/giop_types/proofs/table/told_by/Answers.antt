@@ -1,5 +1,5 @@
 use Rattle.std.proofs.Common.{None, subst}
-use Rattle.giop_types.specs.Tables.{Tells, forms_in, side_of}
+use Rattle.giop_types.specs.Tables.{Tells, side_of}
 use Rattle.giop_types.proofs.Fronts.{front_more}
 use Rattle.giop_types.proofs.table.told_by.Goals as goal
 
@@ -7,6 +7,6 @@ pub loop-place-preserved : goal.loop-place-preserved
 loop-place-preserved c =
     λ small.
     let values = c.in_ok-values.ensures small in
-    let none = subst (λ v. Tells (forms_in c.side-signature.result.now) c.args.body.now v) c.in_default.is values in
-    let here = subst (λ ts. Tells ts c.args.body.now None) c.side-signature.ensures none in
-    front_more (side_of c.args.part) (λ ts. Tells ts c.args.body.now None) c.args.known.now c.loop-place.place c.index-known-place.result c.index-known-place.is (c.loop-place.invariant small) here
+    let none = subst (λ v. Tells c.side-signature.result.now c.args.body.now v) c.in_default.is values in
+    let here = subst (λ s. Tells s c.args.body.now None) c.side-signature.ensures none in
+    front_more (side_of c.args.part) (λ s. Tells s c.args.body.now None) c.args.known.now c.loop-place.place c.index-known-place.result c.index-known-place.is (c.loop-place.invariant small) here
