@@ -14,8 +14,8 @@ pub record Logged : Type 0 where
   pub entries : List (KeptOutcome Holding)
   pub room : Option RequestKey
 
--- what shows of a `Log`: the same, with the entries as the code has them, how many slots its maps have, and how many
--- expirations its heap has
+-- what shows of a `Log`: the same, with the entries as the code has them, how many slots its maps have, how many
+-- expirations its heap has, and of how many outcomes that expired the memory is not given back yet
 pub record Shown : Type 0 where
   pub capacity : ℕ
   pub share : ℕ
@@ -23,6 +23,7 @@ pub record Shown : Type 0 where
   pub room : Option RequestKey
   pub slots : ℕ
   pub dues : ℕ
+  pub stale : ℕ
 
 -- what a `Log` stands for; the public contracts say nothing else of it
 unfoldable pub logged : Shown → Logged
@@ -35,3 +36,7 @@ slots_of l = l.slots
 -- how many expirations its heap has, those of what is withdrawn among them
 unfoldable pub dues_of : Shown → ℕ
 dues_of l = l.dues
+
+-- of how many outcomes that expired the memory is not given back yet
+unfoldable pub stale_of : Shown → ℕ
+stale_of l = l.stale

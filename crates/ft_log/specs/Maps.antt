@@ -37,10 +37,14 @@ held_at m client = unwrap_or (get_by (is_named client None) m) 0
 abbrev pub is_countable : Bool → Counts → Bool
 is_countable is_counted m = not is_counted || nat_lt 0 (spare m)
 
--- a name with the slot of what stands under it
-abbrev pub slot_of : Name × Kept → Name × ℕ
-slot_of p = (p.0, p.1.slot)
+-- what stands under a name, as an entry stands in the order of expirations
+abbrev pub due_at : Name × Kept → ℕ × RequestKey
+due_at p = (p.1.until, key_in p.0)
 
--- the same names in the same order, each with the slot that it had
+-- a name with the slot and the expiration of what stands under it
+abbrev pub slot_of : Name × Kept → Name × ℕ × ℕ
+slot_of p = (p.0, p.1.slot, p.1.until)
+
+-- the same names in the same order, each with the slot and the expiration that it had
 abbrev pub IsRefilled : List (Name × Kept) → List (Name × Kept) → Type 0
 IsRefilled old new = map slot_of new ≡ map slot_of old

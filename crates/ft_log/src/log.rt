@@ -21,14 +21,18 @@ use std::marker::Model;
 /// A contract sees a log as `logged` of it: how many outcomes it may keep, how many of each client, the
 /// entries, and the key that room is made for, if there is one. `find`, `forget`, `keep`, `keep_parked`,
 /// `fill`, `withdraw`, `len`, `held_by` and `next_expiry` allocate nothing.
+///
+/// What is forgotten is no entry from then on. Its memory is given back later, by and by: that of at most eight
+/// outcomes at each `forget`, and of nine at each `make_room`, so that such a call takes no longer where many expire at once.
 #[derive(Drop)]
 pub struct Log {
     store: Store,
+    clock: u64,
 }
 
 impl Model for Log {
     ghost use Rattle.ft_log.specs.Logged.{Shown};
-    ghost use Rattle.ft_log.specs.Store.{shown};
+    ghost use Rattle.ft_log.specs.Store.{shown_at};
     ghost use Rattle.ft_log.specs.contracts.story.Entry as entry;
     ghost use Rattle.std.specs.Coded.{codes};
 
@@ -36,14 +40,14 @@ impl Model for Log {
 
     ghost coded = { Prim.hlevel (codes, entry.the_row.coded) };
 
-    ghost view = { λ l. shown l.store };
+    ghost view = { λ l. shown_at l.clock l.store };
 }
 
 impl Log {
     ghost use Rattle.std.specs.Prelude.{◌≡◌, ◌↔◌, ◌<◌, ◌*◌, ◌++◌, [], ◌∷◌, None, Some, Err, OnOk, OnErr, MatchOption, true, false, length, map};
     ghost use Rattle.ft_log.specs.Holding.{known, parked};
     ghost use Rattle.ft_log.specs.Kept.{filled, kept_for, least_expiration, unexpired, withdrawn};
-    ghost use Rattle.ft_log.specs.Logged.{dues_of, logged, slots_of};
+    ghost use Rattle.ft_log.specs.Logged.{dues_of, logged, slots_of, stale_of};
     ghost use Rattle.ft_log.specs.View.{holding_in, performed_in};
     ghost use Rattle.ft_log.specs.declared.error.LogError.TheVariants.{Full, ShareFull};
 
@@ -53,6 +57,7 @@ impl Log {
     {
         Log {
             store: Store::new(alloc, retention.capacity, retention.share, hasher),
+            clock: 0,
         }
     }
 
@@ -60,43 +65,48 @@ impl Log {
     pub fn find(&self, key: &Key) -> Option<&Held>
         ensures { option_map (λ h. holding_in h.now) result ≡ kept_for (key_of key.now) (logged self.now).entries }
     {
-        self.store.find(key)
+        self.store.find(key, self.clock)
     }
 
-    /// How many outcomes are kept.
+    /// How many outcomes are kept. As long as the memory of some that are forgotten is not given back, it looks at
+    /// all of them.
     pub fn len(&self) -> usize
         ensures length { result ≡ length (logged self.now).entries }
         ensures bound { result ≤ (logged self.now).capacity }
     {
-        self.store.len()
+        self.store.len_from(self.clock)
     }
 
-    /// How many outcomes of a client are kept.
+    /// How many outcomes of a client are kept. It looks at all outcomes where the share is the capacity or more, and as long
+    /// as the memory of some that are forgotten is not given back.
     pub fn held_by(&self, client_id: &[u8]) -> u32
         ensures held { result ≡ held_of client_id.now (keys_of (logged self.now).entries) }
         ensures bound { result ≤ (logged self.now).share }
     {
-        self.store.held_by(client_id)
+        self.store.held_from(client_id, self.clock)
     }
 
-    /// The least expiration of what is kept.
+    /// The least expiration of what is kept. As long as the memory of some outcomes that are forgotten is not given back, it
+    /// looks at all of them.
     pub fn next_expiry(&self) -> Option<u64>
         ensures least { result ≡ least_expiration (logged self.now).entries }
         ensures stays { (now : ℕ) → MatchOption result (Unit {0}) (λ t. now ≤ t) → unexpired now (logged self.now).entries ≡ (logged self.now).entries }
     {
-        self.store.next_expiry()
+        self.store.next_from(self.clock)
     }
 
     /// Drops exactly the entries whose expiration lies before a moment, given as the number of 100 ns
-    /// since 15 October 1582.
+    /// since 15 October 1582. It gives back the memory of at most eight.
     pub fn forget(&mut self, now: u64)
         ensures { logged self.new ≡ record (logged self.old) { entries = unexpired now (logged self.old).entries } }
     {
-        self.store.forget(now);
+        self.clock = self.clock.max(now);
+        self.store.forget_some(self.clock);
     }
 
     /// Makes room for the outcome of a key that has none, and for no other. An error leaves room for no
-    /// key. The entries stay as they are in every case.
+    /// key. The entries stay as they are in every case. It gives back the memory of at most nine that are forgotten; but
+    /// where with those of a client that are left it would have its share, that of all that are.
     pub fn make_room(&mut self, key: &Key) -> Result<(), LogError>
         requires { kept_for (key_of key.now) (logged self.old).entries ≡ None }
         ensures ok { OnOk result (logged self.new ≡ record (logged self.old) { room = Some (key_of key.now) }) }
@@ -107,11 +117,12 @@ impl Log {
         ensures within { OnOk result (length (logged self.old).entries < (logged self.old).capacity) }
         ensures shared { OnOk result (held_of (key_of key.now).client_id (keys_of (logged self.old).entries) < (logged self.old).share) }
     {
-        self.store.make_room(key)
+        self.store.make_room_from(key, self.clock)
     }
 
     /// Keeps the outcome of the key that room is made for, last of all, until its expiration. Afterwards
-    /// room is made for none. It can't fail.
+    /// room is made for none. It can't fail. Where the expiration lies before a moment that was given to `forget`, it first
+    /// gives back the memory of all that are forgotten.
     pub fn keep(&mut self, key: Key, expiration: u64, outcome: Outcome)
         requires { (logged self.old).room ≡ Some (key_of key) }
         ensures { logged self.new ≡ record (logged self.old) {
@@ -119,6 +130,7 @@ impl Log {
           room = None;
         } }
     {
+        self.clock = self.store.clock_for(self.clock, expiration);
         self.store.keep(key, expiration, Held::Known(outcome));
     }
 
@@ -131,6 +143,7 @@ impl Log {
           room = None;
         } }
     {
+        self.clock = self.store.clock_for(self.clock, expiration);
         self.store.keep(key, expiration, Held::Parked(number));
     }
 
@@ -158,12 +171,14 @@ impl Log {
     }
 
     /// The map has at most one slot for each entry and one for each client of an entry, however many clients
-    /// have asked; and the heap two expirations for each entry, however many calls were withdrawn.
+    /// have asked; and the heap two expirations for each entry, however many calls were withdrawn. What is forgotten, and
+    /// its client, count too until its memory is given back; with the entries it is never more than the capacity.
     pub fn slots_are_few(&self)
-        ensures each { slots_of self.now ≤ length (logged self.now).entries + clients_in (keys_of (logged self.now).entries) }
-        ensures twice { slots_of self.now ≤ 2 * length (logged self.now).entries }
+        ensures each { slots_of self.now ≤ length (logged self.now).entries + clients_in (keys_of (logged self.now).entries) + 2 * stale_of self.now }
+        ensures twice { slots_of self.now ≤ 2 * (length (logged self.now).entries + stale_of self.now) }
         ensures bound { slots_of self.now ≤ 2 * (logged self.now).capacity }
-        ensures dues { dues_of self.now ≤ 2 * length (logged self.now).entries }
+        ensures dues { dues_of self.now ≤ 2 * (length (logged self.now).entries + stale_of self.now) }
+        ensures within { length (logged self.now).entries + stale_of self.now ≤ (logged self.now).capacity }
     {
         self.store.slots_are_few();
     }
