@@ -289,7 +289,7 @@ fn set_caught(
     if printer.has_bodies
         && let Some(octets) = body_in(content)
     {
-        object.body = Some(hex::encode(printer.alloc, octets)?);
+        object.body = Some(digits::encode(printer.alloc, octets)?);
         object.text = Some(text_of(printer.alloc, octets)?);
     }
     Ok(())

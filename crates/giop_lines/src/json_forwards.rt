@@ -49,7 +49,7 @@ fn component_objects(
         objects.push(ComponentObject {
             tag: component.tag,
             name: component_name(component.tag),
-            octets: hex::encode(alloc, &component.octets)?,
+            octets: digits::encode(alloc, &component.octets)?,
             meaning: component_meaning(alloc, component.tag, &component.octets)?,
         })?;
     }
@@ -60,7 +60,7 @@ fn component_objects(
 fn bare_profile(alloc: Global, profile: &Profile) -> Result<ProfileObject, AllocError> {
     Ok(ProfileObject {
         tag: profile.tag,
-        octets: Some(hex::encode(alloc, &profile.octets)?),
+        octets: Some(digits::encode(alloc, &profile.octets)?),
         minor: None,
         host: None,
         port: None,
@@ -86,7 +86,7 @@ fn profile_object(
             minor: Some(iiop.minor),
             host: Some(text_of(alloc, &iiop.host)?),
             port: Some(iiop.port),
-            key: Some(hex::encode(alloc, &iiop.object_key)?),
+            key: Some(digits::encode(alloc, &iiop.object_key)?),
             object: objects.letter(&iiop.object_key)?,
             components: component_objects(alloc, &iiop.components)?,
         }),

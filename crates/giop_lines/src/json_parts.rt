@@ -55,7 +55,7 @@ fn context_object(alloc: Global, id: u32, octets: &[u8]) -> Result<ContextObject
     Ok(ContextObject {
         id,
         name: context_name(id),
-        octets: hex::encode(alloc, octets)?,
+        octets: digits::encode(alloc, octets)?,
         meaning: context_meaning(alloc, id, octets)?,
     })
 }
@@ -118,12 +118,12 @@ pub(crate) fn target_object(alloc: Global, target: &Target) -> Result<TargetObje
     };
     match target {
         Target::Key(key) => {
-            object.key = Some(hex::encode(alloc, *key)?);
+            object.key = Some(digits::encode(alloc, *key)?);
             object.text = Some(text_of(alloc, key)?);
         }
         Target::Profile(tag, octets) => {
             object.tag = Some(*tag);
-            object.profile = Some(hex::encode(alloc, *octets)?);
+            object.profile = Some(digits::encode(alloc, *octets)?);
         }
         Target::Reference(index, _) => object.index = Some(*index),
     }

@@ -154,7 +154,7 @@ fn called_texts(
 ) -> Result<CalledTexts, AllocError> {
     let mut texts = no_texts();
     if let Some(key) = &called.key {
-        texts.key = Some(hex::encode(alloc, key)?);
+        texts.key = Some(digits::encode(alloc, key)?);
         texts.object = objects.letter(key)?;
     }
     if let Some(operation) = &called.operation {

@@ -31,7 +31,7 @@ fn print_entry<W: Write>(alloc: Global, entry: &Written, out: &mut W) -> Result<
         return Ok(());
     }
     let connection = entry.connection;
-    let digits = hex::encode(alloc, &entry.octets)?;
+    let digits = digits::encode(alloc, &entry.octets)?;
     writeln!(out, "{connection} {digits}")?;
     Ok(())
 }

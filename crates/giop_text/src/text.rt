@@ -44,5 +44,5 @@ pub fn digits_of(alloc: Global, octets: &[u8]) -> Result<String, AllocError>
     if octets.is_empty() {
         return String::from_str(alloc, "-");
     }
-    hex::encode(alloc, octets)
+    digits::encode(alloc, octets)
 }

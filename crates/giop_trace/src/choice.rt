@@ -129,7 +129,7 @@ impl Chooser {
         let (Some(wanted), Some(key)) = (&self.object, key_in(content)) else {
             return Ok(self.object.is_none());
         };
-        let digits = hex::encode(self.alloc, key)?;
+        let digits = digits::encode(self.alloc, key)?;
         Ok(wanted.as_slice() == key || wanted.as_slice() == digits.as_bytes())
     }
 
