@@ -20,7 +20,8 @@ use crate::reading::basic;
 use crate::types::{Case, Ty};
 
 /// Whether a type is a boolean, a number or an enumeration.
-fn is_basic(ty: &Ty) -> bool
+#[inline(always)]
+pub(crate) fn is_basic(ty: &Ty) -> bool
     ensures { IsTrue result ↔ IsBasic (form_of ty.now) }
 {
     match ty {

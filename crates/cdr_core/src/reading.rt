@@ -17,12 +17,14 @@ use crate::cursor::Cursor;
 use crate::fault::{CdrError, Fault};
 use crate::fitting::is_labelled;
 use crate::order::Order;
+use crate::passing::is_basic;
 use crate::runs::more;
 use crate::types::{Case, Ty};
 use crate::values::Val;
 use std::alloc::{AllocError, Global};
 
 /// Reads a boolean, a number or an enumeration.
+#[inline(always)]
 #[tactic(auto, unfolding(crate::specs::Reading::value_at))]
 pub(crate) fn basic(ty: &Ty, cursor: &mut Cursor) -> Result<Val, Fault>
     requires { IsBasic (form_of ty.now) }
@@ -130,6 +132,19 @@ fn push_member(member: Val, members: usize, all: &mut Vec<Val>) -> Result<(), Al
     Ok(())
 }
 
+/// Reads a member of a list, without a call where it is a boolean, a number or an enumeration.
+#[cycle(reading)]
+#[inline(always)]
+fn member(alloc: Global, ty: &Ty, cursor: &mut Cursor) -> Result<Val, CdrError>
+    ensures { GivesUnlessMemory value_of result (value_at (form_of ty.now) cursor.old.order) (Stores (form_of ty.now) cursor.old.order) cursor.old cursor.new }
+{
+    if is_basic(ty) {
+        Ok(basic(ty, cursor)?)
+    } else {
+        value(alloc, ty, cursor)
+    }
+}
+
 /// Reads a value of each type into a vector in place of what it holds. Memory is taken once the first is read, where
 /// the vector has not room enough.
 #[cycle(reading)]
@@ -145,7 +160,7 @@ fn each_of(
     let mut all = room;
     all.clear();
     for ty in types {
-        let value = value(alloc, ty, cursor)?;
+        let value = member(alloc, ty, cursor)?;
         push_member(value, types.len(), &mut all)?;
     }
     Ok(all)

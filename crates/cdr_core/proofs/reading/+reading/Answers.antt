@@ -98,7 +98,7 @@ pub each_of-loop-ty-preserved : goal.each_of-loop-ty-preserved
 each_of-loop-ty-preserved t c =
     let i = c.loop-ty.invariant in
     let read = rw i.order at c.in_ok-value.ensures in
-    let cursor = c.value.new.cursor in
+    let cursor = c.member.new.cursor in
     record {
       order = read.1;
       stores = λ p h. i.stores p (members_store c.args.types.now c.loop-ty.ty-index c.ty-item.result c.args.cursor.now.order c.loop-ty.cursor.place c.loop-ty.cursor.rest (value_of c.in_ok-value.value) cursor.place cursor.rest p c.loop-ty-test.true c.ty-item.is read.0 (inr h));
@@ -112,7 +112,7 @@ each_of-returns-in_err-value-clause-gives t c =
     let p = err_from_is_err_and c.from_residual.result c.from_residual.ensures.1 in
     let i = c.loop-ty.invariant in
     let read = rw i.order at c.in_err-value.ensures in
-    rw (p.1, p.2) (members_end c.in_err-value.field-0.0 c.args.types.now c.loop-ty.ty-index c.ty-item.result c.args.cursor.now.order (values_of c.loop-ty.all.items) c.loop-ty.cursor.place c.loop-ty.cursor.rest _ c.loop-ty-test.true c.ty-item.is read.0 i.whole, if_memory c.in_err-value.field-0.0 (λ h. i.stores c.value.new.cursor.place (member_stores c.args.types.now c.loop-ty.ty-index c.ty-item.result c.args.cursor.now.order c.loop-ty.cursor.place c.loop-ty.cursor.rest c.value.new.cursor.place c.loop-ty-test.true c.ty-item.is h)) read.1)
+    rw (p.1, p.2) (members_end c.in_err-value.field-0.0 c.args.types.now c.loop-ty.ty-index c.ty-item.result c.args.cursor.now.order (values_of c.loop-ty.all.items) c.loop-ty.cursor.place c.loop-ty.cursor.rest _ c.loop-ty-test.true c.ty-item.is read.0 i.whole, if_memory c.in_err-value.field-0.0 (λ h. i.stores c.member.new.cursor.place (member_stores c.args.types.now c.loop-ty.ty-index c.ty-item.result c.args.cursor.now.order c.loop-ty.cursor.place c.loop-ty.cursor.rest c.member.new.cursor.place c.loop-ty-test.true c.ty-item.is h)) read.1)
 
 pub each_of-returns-clause-gives : goal.each_of-returns-clause-gives
 each_of-returns-clause-gives t c =
@@ -210,7 +210,7 @@ each_of-returns-in_err-push_member-clause-gives t c =
     let p = err_from_is_err_and c.from_residual-in_err-push_member.result c.from_residual-in_err-push_member.ensures.1 in
     let i = c.loop-ty.invariant in
     let read = rw i.order at c.in_ok-value.ensures in
-    let cursor = c.value.new.cursor in
+    let cursor = c.member.new.cursor in
     rw (p.1, p.2) (tt, i.stores cursor.place (members_store c.args.types.now c.loop-ty.ty-index c.ty-item.result c.args.cursor.now.order c.loop-ty.cursor.place c.loop-ty.cursor.rest (value_of c.in_ok-value.value) cursor.place cursor.rest cursor.place c.loop-ty-test.true c.ty-item.is read.0 (inl refl)))
 
 pub chosen-returns-in_err-new : goal.chosen-returns-in_err-new
