@@ -103,6 +103,7 @@ fn first_of<'m>(cursor: &mut Cursor<'m>, left: u32, id: u32) -> Option<&'m [u8]>
 /// What the first FT_REQUEST among service contexts says: its fields, or that it is not valid, or that
 /// there is none. Contexts of other ids are passed over, and so are further ones of that id (own rule).
 #[tactic(auto, unfolding(crate::specs::Ft::ft_in))]
+#[inline(always)]
 pub fn ft_request<'m>(contexts: &Contexts<'m>) -> FtField<'m>
     ensures { ft_seen result ≡ ft_in (contexts_left contexts.now) }
 {

@@ -112,7 +112,19 @@ impl Version {
 impl<'m> Target<'m> {
     /// The object key: the key itself, that of an IIOP profile, or that of the chosen profile of a
     /// reference. None where there is no such profile, or where it isn't a valid one of IIOP.
+    #[inline(always)]
     pub fn object_key(&self) -> Option<&'m [u8]>
+        ensures { option_map (λ key. key.now) result ≡ key_of_addressed (addressed_by self.now) }
+    {
+        match self {
+            Target::Key(key) => Some(key),
+            _ => self.key_of_any(),
+        }
+    }
+
+    /// The same, beside the path of most messages.
+    #[inline(never)]
+    fn key_of_any(&self) -> Option<&'m [u8]>
         ensures { option_map (λ key. key.now) result ≡ key_of_addressed (addressed_by self.now) }
     {
         match self {

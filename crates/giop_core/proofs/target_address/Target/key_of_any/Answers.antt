@@ -1,5 +1,5 @@
 use Rattle.std.proofs.Common.{rules}
-use Rattle.giop_core.proofs.target_address.Target.object_key.Goals as goal
+use Rattle.giop_core.proofs.target_address.Target.key_of_any.Goals as goal
 
 pub returns-in_err-tag-in-Reference : goal.returns-in_err-tag-in-Reference
 returns-in_err-tag-in-Reference c = search rules
