@@ -13,6 +13,7 @@ pub mod Ids
 pub mod Judging
 pub mod Bounds
 pub mod Stepping
+pub mod Alone
 pub mod Holding
 pub mod Splitting
 pub mod Cuts

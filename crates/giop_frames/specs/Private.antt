@@ -1,6 +1,6 @@
 -- Words of private functions, and of what is true of an assembler's fields: what the code's own values stand for. No contract
 -- of a public call cites them, and nobody has to read them to know what is promised.
-use Rattle.std.specs.Prelude.{◌≡◌, ℕ, ◌+◌, ◌<◌, ◌≤◌, ◌++◌, ◌⊎◌, List, [], ◌∷◌, Option, Some, None, is_some, Ok, Err, IsOk, Bool, true, length, drop, if◌then◌else◌}
+use Rattle.std.specs.Prelude.{◌≡◌, ℕ, ◌+◌, ◌<◌, ◌≤◌, ◌++◌, ◌⊎◌, List, [], ◌∷◌, Option, Some, None, is_some, Ok, Err, IsOk, Bool, true, false, length, take, drop, if◌then◌else◌}
 use Rattle.giop_core.specs.declared.header.Header.{Header}
 use Rattle.giop_core.specs.declared.message.Places.{Places}
 use Rattle.giop_core.specs.Places.{ArePlacesOf}
@@ -121,6 +121,19 @@ IsSettled s limits h b b' ps ps' = IsLeft s (judged_by limits (part_in ps Of11) 
 -- from the octets b and the partial messages ps to b' and ps', of a frame under the header h, in a role
 abbrev pub IsSettledAs : Role → Settled → Limits → Header → List ℕ → List ℕ → List Entry → List Entry → Type 0
 IsSettledAs r s limits h b b' ps ps' = IsLeft s (judged_as r limits (part_in ps (key_of (framed h b))) (length ps) (framed h b)) b' ps' (parts_as r ps (framed h b))
+
+-- the roles of a message that is judged by itself where none is partial, and leaves it so
+abbrev pub is_alone : Role → Bool
+is_alone Uncut = true
+is_alone Apart = true
+is_alone _ = false
+
+-- a message lies whole where a piece begins, is judged by itself, and its parts lie at these places
+pub record LiesWhole (limits : Limits) (piece : List ℕ) (h : Header) (places : Places) : Type 0 where
+  pub within : frame_size h ≤ length piece
+  pub seen : sight limits (take (frame_size h) piece) ≡ Whole (framed h (take (frame_size h) piece))
+  pub settled : IsSettled (SettledDone h) limits h (take (frame_size h) piece) (take (frame_size h) piece) [] []
+  pub placed : ArePlacesOf h (drop 12 (take (frame_size h) piece)) places
 
 -- a message that is lent reads, and is no longer than the limit
 pub record IsWhole (limits : Limits) (h : Header) (b : List ℕ) : Type 0 where

@@ -10,8 +10,9 @@ ghost use Rattle.giop_frames.specs.Fragments.{content_of, partials_in};
 ghost use Rattle.giop_frames.specs.Standing.{AreWithin, HasPlace, IsBounded, IsFault, IsLent, StandsFor, completed_at, entries, frame_held, frame_of, octets_held, parts_held, pending_at};
 ghost use Rattle.giop_frames.specs.Streams.{Awaits, Stands, frame_begins, frames_of, messages_of, rest_of};
 
-use crate::deframer::{Gathered, Seen, gather};
+use crate::deframer::{Gathered, Seen, frame_size, gather};
 use crate::fault::StreamFault;
+use crate::in_place::find_whole;
 use crate::limits::Limits;
 use crate::partial::Part;
 use crate::reassembly::{Settled, settle};
@@ -98,6 +99,18 @@ fn advance(
     ensures placed { IfOk result (λ r. ArePlaced r.complete frame.new.items places.new) }
     ensures within { AreWithin limits.now (entries parts.old.items) → IfOk result (λ r. AreWithin limits.now (entries parts.new.items)) }
 {
+    if frame.is_empty() && parts.is_empty() {
+        if let Some(header) = find_whole(limits, places, piece) {
+            let (front, _) = piece.split_at(frame_size(&header));
+            if frame.extend_from_slice(front).is_err() {
+                return Err(StreamFault::Memory);
+            }
+            return Ok(Step {
+                taken: front.len(),
+                complete: Some(header),
+            });
+        }
+    }
     let mut taken = 0;
     while taken < piece.len() {
         let (_, left) = piece.split_at(taken);

@@ -73,7 +73,7 @@ fn admit(limits: &Limits, header: Header) -> Result<Header, StreamFault>
 
 /// Judges the first twelve octets of a frame.
 #[inline(always)]
-fn judge(limits: &Limits, octets: &[u8; 12]) -> Result<Header, StreamFault>
+pub(crate) fn judge(limits: &Limits, octets: &[u8; 12]) -> Result<Header, StreamFault>
     ensures { result ≡ judged_header limits.now (header_of octets.now) }
 {
     let header = Header::read(octets)?;

@@ -10,6 +10,7 @@ mod assembler;
 mod deframer;
 mod fault;
 mod fragmenter;
+mod in_place;
 pub mod laws;
 mod limits;
 mod naming;
