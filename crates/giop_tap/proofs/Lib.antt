@@ -2,6 +2,8 @@ pub mod Places
 pub mod Stacks
 pub mod Kept
 pub mod Rising
+pub mod Gathered
+pub mod Unanswered
 pub mod Keyed
 pub mod News
 pub mod Feeding

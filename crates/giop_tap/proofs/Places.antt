@@ -85,7 +85,7 @@ kind-is Location Reply h = absurd (true≢false (sym h))
 kind-is Location Location h = refl
 
 -- where a request waits
-abbrev place_of : Asked → Place
+abbrev pub place_of : Asked → Place
 place_of a = record { connection = a.connection; sender = a.sender; wanted = a.wanted; id = a.id }
 
 waits-there : (p : Place) (a : Asked) → is_at p a ≡ true → p ≡ place_of a

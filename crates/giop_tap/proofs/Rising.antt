@@ -9,7 +9,7 @@ use Rattle.giop_tap.specs.Waiting.{AreRising}
 use Rattle.giop_tap.proofs.Stacks.{all-push, all-without, rising-push, rising-without}
 
 -- they rise, and are below a number
-record RiseBelow (n : ℕ) (ws : List Asked) : Type 0 where
+pub record RiseBelow (n : ℕ) (ws : List Asked) : Type 0 where
   pub rise : AreRising ws
   pub below : AllByRecursion (λ a. a.number < n) ws
 
@@ -26,7 +26,7 @@ step n connection sender (Answers wanted id) ws r =
 step n connection sender (Cancels id) ws r = record { rise = r.rise; below = more n ws r.below }
 step n connection sender Apart ws r = record { rise = r.rise; below = more n ws r.below }
 
-rise-below : (earlier : List Said) → RiseBelow (suc (length earlier)) (waiting earlier)
+pub rise-below : (earlier : List Said) → RiseBelow (suc (length earlier)) (waiting earlier)
 rise-below [] = record { rise = tt; below = tt }
 rise-below (m ∷ earlier) = step (suc (length earlier)) m.connection m.sender (part_of m.content) (waiting earlier) (rise-below earlier)
 

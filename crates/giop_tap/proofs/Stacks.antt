@@ -135,7 +135,7 @@ popped (n ∷ old) new None len all is some = absurd (true≢false (sym (some.1 
 
 -- rising numbers
 
-all-latest : (P : Asked → Type 0) (test : Asked → Bool) (ws : List Asked) (b : Asked) → AllByRecursion P ws → latest test ws ≡ Some b → P b
+pub all-latest : (P : Asked → Type 0) (test : Asked → Bool) (ws : List Asked) (b : Asked) → AllByRecursion P ws → latest test ws ≡ Some b → P b
 all-latest P test [] b all is = absurd (let k : None ≡ Some b = is in cc)
 all-latest P test (a ∷ later) b all is = by (latest test later) (test a) refl is (λ o. all-latest P test later b all.1 o)
   where

@@ -1,9 +1,9 @@
 -- Which request a message answers or cancels, and which it repeats. The earlier messages are a list, the latest first, over
 -- all connections; the number of a message counts from 1.
-use Rattle.std.specs.Prelude.{ℕ, suc, ◌+◌, ◌/◌, ◌==◌, ◌≤◌, ◌&&◌, ◌++◌, ℤ, Bool, true, false, List, [], ◌∷◌, length, sum_by, take, Option, Some, None, IsSome, if◌then◌else◌}
+use Rattle.std.specs.Prelude.{ℕ, suc, ◌+◌, ◌/◌, ◌==◌, ◌≤◌, ◌&&◌, ◌||◌, ◌++◌, ℤ, Bool, true, false, not, List, [], ◌∷◌, length, sum_by, take, Option, Some, None, IsSome, if◌then◌else◌}
 use Rattle.std.specs.Option.{option_map}
 use Rattle.std.specs.Ordering.{int_eq}
-use Rattle.std.specs.List.{find, list_any}
+use Rattle.std.specs.List.{filter, find, list_any}
 use Rattle.std.specs.Str.{bytes_eq}
 use Rattle.giop_core.specs.declared.request.ReplyWish.{ReplyWish}
 use Rattle.giop_core.specs.declared.request.ReplyWish.TheVariants as wish
@@ -116,6 +116,37 @@ request_of m earlier = number_of (latest (is_about m.connection m.sender (part_o
 abbrev pub answered : List Said → Option ℕ
 answered [] = None
 answered (m ∷ earlier) = request_of m earlier
+
+-- GIOP 9.4.2, GIOP 9.4.5: the requests that want an answer, by their numbers
+abbrev pub asking_by : ℕ → Part → List ℕ
+asking_by number (Asks kind id) = number ∷ []
+asking_by number (Answers kind id) = []
+asking_by number (Cancels id) = []
+asking_by number Apart = []
+
+abbrev pub asking : List Said → List ℕ
+asking [] = []
+asking (m ∷ earlier) = asking earlier ++ asking_by (suc (length earlier)) (part_of m.content)
+
+-- whether a message is the answer to the request of a number
+abbrev pub is_number : ℕ → Option ℕ → Bool
+is_number number None = false
+is_number number (Some request) = request == number
+
+abbrev pub answers : ℕ → Part → Option ℕ → Bool
+answers number (Answers kind id) request = is_number number request
+answers number (Asks kind id) request = false
+answers number (Cancels id) request = false
+answers number Apart request = false
+
+-- whether one of these is
+abbrev pub is_answered : ℕ → List Said → Bool
+is_answered number [] = false
+is_answered number (m ∷ earlier) = is_answered number earlier || answers number (part_of m.content) (request_of m earlier)
+
+-- the requests that want an answer, and that no message has answered
+abbrev pub unanswered_in : List Said → List ℕ
+unanswered_in earlier = filter (λ n. not (is_answered n earlier)) (asking earlier)
 
 -- repeats
 

@@ -1,9 +1,12 @@
 -- The messages of connections in the order in which they complete, by what each side sent.
-use Rattle.std.specs.Prelude.{◌≡◌, ℕ, ◌++◌, List, [], ◌∷◌, length, drop, Option, Some, None, ⊤}
+use Rattle.std.specs.Prelude.{◌≡◌, ℕ, ◌+◌, ◌++◌, Bool, List, [], ◌∷◌, length, drop, Option, Some, None, is_some, ⊤}
 use Rattle.giop_core.specs.declared.header.Version.{Version}
 use Rattle.giop_core.specs.Content.{Content}
 use Rattle.giop_frames.specs.declared.limits.Limits.{Limits}
-use Rattle.giop_link.specs.Hearing.{Sound, heard_as, says}
+use Rattle.giop_frames.specs.Frames.{Frame}
+use Rattle.giop_frames.specs.Standing.{frame_held, parts_held}
+use Rattle.giop_frames.specs.Streams.{Entry, Follows, frames_of, rest_of}
+use Rattle.giop_link.specs.Hearing.{Sound, ending_as, heard_as, says}
 use Rattle.giop_link.specs.Listening.{Listened, ListenerStands, heard_in, spoken_by}
 use Rattle.giop_tap.specs.declared.pairing.Tie.{Tie}
 use Rattle.giop_tap.specs.declared.sender.Sender.{Sender}
@@ -23,6 +26,17 @@ said_in limits s = heard_as counts limits s
 
 abbrev pub news : Limits → List ℕ → List ℕ → List Content
 news limits before octets = drop (length (said_in limits before)) (said_in limits (before ++ octets))
+
+-- whether a stream has ended: nothing that comes after its first fault counts
+abbrev pub has_ended : Limits → List ℕ → Bool
+has_ended limits s = is_some (ending_as counts limits s)
+
+-- how many octets are held of a stream that has not ended: those after its last whole frame, or those of a message that is
+-- whole; and those of the messages whose fragments have not all come
+pub record IsHeld (limits : Limits) (s : List ℕ) (message : Option Frame) (n : ℕ) : Type 0 where
+  pub parts : List Entry
+  pub partial : Follows parts (frames_of limits s)
+  pub octets : n ≡ frame_held message (rest_of limits s) + parts_held parts
 
 -- what has come: the number of the connection, the octets of each side on it, or since it was resumed, and the messages on
 -- all connections, the latest first

@@ -1,9 +1,9 @@
 -- What is kept of the requests that wait: under each place, their numbers. No public contract rests on how they are kept.
-use Rattle.std.specs.Prelude.{◌≡◌, ℕ, ◌<◌, ◌&&◌, max, Bool, List, [], ◌∷◌, Option, Some, None, if◌then◌else◌}
+use Rattle.std.specs.Prelude.{◌≡◌, ℕ, ◌<◌, ◌&&◌, max, Bool, List, [], ◌∷◌, map, Option, Some, None, if◌then◌else◌}
 use Rattle.std.specs.Global.{Vec}
 use Rattle.std.specs.BTreeMap.{is_at as is_at_key}
-use Rattle.std.specs.Map.{lookup}
-use Rattle.std.specs.List.{AllByRecursion}
+use Rattle.std.specs.Map.{lookup, values_of}
+use Rattle.std.specs.List.{AllByRecursion, flat_map}
 use Rattle.std.specs.Option.{option_map_or}
 use Rattle.std.specs.Ordering.{is_eq}
 use Rattle.std.specs.declared.cmp.Ordering.{Ordering}
@@ -33,6 +33,14 @@ is_at p a = is_asked p.connection p.sender p.id a && is_wanted p.wanted a.wanted
 abbrev pub numbers_at : Place → List Asked → List ℕ
 numbers_at p [] = []
 numbers_at p (a ∷ later) = if is_at p a then a.number ∷ numbers_at p later else numbers_at p later
+
+-- the numbers of all requests
+abbrev pub numbers : List Asked → List ℕ
+numbers asked = map (λ a. a.number) asked
+
+-- those that are kept, place by place
+abbrev pub gathered : Waits → List ℕ
+gathered m = flat_map (λ v. v.items) (values_of m)
 
 -- what is kept is these requests
 abbrev pub AreWaiting : Waits → List Asked → Type 0

@@ -2,14 +2,14 @@
 
 ghost use Rattle.std.specs.Prelude.{◌≡◌, suc, ◌∷◌, [], List, IfOk, OnOk};
 ghost use Rattle.giop_core.specs.Lent.{content_of};
-ghost use Rattle.giop_tap.specs.Pairing.{Said};
+ghost use Rattle.giop_tap.specs.Pairing.{Said, unanswered_in};
 ghost use Rattle.giop_tap.specs.Remembered.{tie_of};
 ghost use Rattle.giop_tap.specs.Tracing.{PairsStand};
 
 use crate::keys::Keyed;
 use crate::part::{field_of, part_of};
 use crate::sender::Sender;
-use crate::waiting::{Waiting, take_part};
+use crate::waiting::{Waiting, all_numbers, take_part};
 use giop_core::Content;
 use std::alloc::{AllocError, Global};
 use std::collections::BTreeMap;
@@ -93,13 +93,10 @@ impl Pairs {
     }
 
     /// The numbers of the requests that no message has answered, in their order.
-    pub fn unanswered(&self) -> Result<Vec<u64>, AllocError> {
-        let mut all = Vec::new(self.alloc);
-        for numbers in self.waiting.values() {
-            all.extend_from_slice(numbers.as_slice())?;
-        }
-        all.sort_unstable();
-        Ok(all)
+    pub fn unanswered(&self) -> Result<Vec<u64>, AllocError>
+        ensures { (earlier : List Said) → PairsStand self.now earlier → IfOk result (λ v. v.items ≡ unanswered_in earlier) }
+    {
+        all_numbers(self.alloc, &self.waiting)
     }
 
     /// Takes the next message, and returns what it has to do with those before it.

@@ -1,12 +1,13 @@
 //! A reader beside connections: each message of either side, and what it has to do with earlier ones.
 
-ghost use Rattle.std.specs.Prelude.{◌≡◌, ◌≤◌, ◌++◌, ℕ, List, length, take, [], IfOk, IfSome, IsSome, IsTrue, MatchOption, None, Some};
+ghost use Rattle.std.specs.Prelude.{◌≡◌, ◌≢◌, ◌≤◌, ◌+◌, ◌*◌, ◌++◌, ℕ, true, false, List, length, take, [], IfOk, IfSome, IsSome, IsTrue, MatchOption, None, Some};
 ghost use Rattle.giop_core.specs.Lent.{content_of};
 ghost use Rattle.giop_frames.specs.declared.limits.Limits.{Limits};
+ghost use Rattle.giop_frames.specs.Streams.{Awaits, rest_of};
 ghost use Rattle.giop_link.specs.Listening.{ListenerStands, heard_in, spoken_by};
-ghost use Rattle.giop_tap.specs.Pairing.{RepeatsRecent, Said, answered, may_repeat, named_in, repeated, weight_in};
+ghost use Rattle.giop_tap.specs.Pairing.{RepeatsRecent, Said, answered, may_repeat, named_in, repeated, unanswered_in, weight_in};
 ghost use Rattle.giop_tap.specs.Tracing as tracing;
-ghost use Rattle.giop_tap.specs.Tracing.{EndsStand, IsLatest, PairsStand, Talk, TraceStands, counts, end_of, lent_of, news, octets_of, said_after, talk_after};
+ghost use Rattle.giop_tap.specs.Tracing.{EndsStand, IsHeld, IsLatest, PairsStand, Talk, TraceStands, counts, end_of, has_ended, lent_of, news, octets_of, said_after, talk_after};
 
 use crate::either::Either;
 use crate::pairing::{Pairs, Tie};
@@ -246,14 +247,30 @@ impl Trace {
         }
     }
 
-    /// How many octets of a side are held: those of the frame that is not whole, and those of partial messages.
-    pub fn held(&self, sender: Sender) -> usize {
-        self.listener(sender).held()
+    /// How many octets of a side are held: those of the frame that is not whole, or of the message that the side completed
+    /// last, until `feed` is called for it again; and those of partial messages, the headers of their first frames among
+    /// them. A side whose stream has ended holds none.
+    pub fn held(&self, sender: Sender) -> usize
+        ensures octets { (t : Talk) → TraceStands self.now t → has_ended self.now.limits (octets_of sender t) ≡ false → IsHeld self.now.limits (octets_of sender t) (end_of sender self.now).message result }
+        // where the last octets that were taken are of this side, and brought no message, none counts
+        ensures idle { (t : Talk) → TraceStands self.now t → has_ended self.now.limits (octets_of sender t) ≡ false → self.now.lends ≡ Some sender → lent_of self.now ≡ [] → IsHeld self.now.limits (octets_of sender t) None result }
+        ensures ended { (t : Talk) → TraceStands self.now t → has_ended self.now.limits (octets_of sender t) ≡ true → result ≡ 0 }
+        ensures bound { (t : Talk) → TraceStands self.now t → result ≤ (self.now.limits.partials + 1) * self.now.limits.message }
+    {
+        let listener = self.listener(sender);
+        if listener.is_closed() {
+            return 0;
+        }
+        listener.held()
     }
 
-    /// How many octets of the frame that a side has begun are still to come, once its header has; none where it has
-    /// begun none.
-    pub fn left(&self, sender: Sender) -> u64 {
+    /// How many octets of the frame that a side has begun are still to come, or of its header, where that has not come
+    /// whole; none where it has begun none, or its stream has ended.
+    pub fn left(&self, sender: Sender) -> u64
+        ensures awaits { (t : Talk) → TraceStands self.now t → has_ended self.now.limits (octets_of sender t) ≡ false → rest_of self.now.limits (octets_of sender t) ≢ [] → Awaits self.now.limits (octets_of sender t) result }
+        ensures none { (t : Talk) → TraceStands self.now t → rest_of self.now.limits (octets_of sender t) ≡ [] → result ≡ 0 }
+        ensures ended { (t : Talk) → TraceStands self.now t → has_ended self.now.limits (octets_of sender t) ≡ true → result ≡ 0 }
+    {
         let listener = self.listener(sender);
         match listener.pending() {
             0 => 0,
@@ -278,7 +295,9 @@ impl Trace {
     }
 
     /// The numbers of the requests that no message has answered, in their order.
-    pub fn unanswered(&self) -> Result<Vec<u64>, AllocError> {
+    pub fn unanswered(&self) -> Result<Vec<u64>, AllocError>
+        ensures { (t : Talk) → TraceStands self.now t → IfOk result (λ v. v.items ≡ unanswered_in t.earlier) }
+    {
         self.pairs.unanswered()
     }
 }

@@ -3,7 +3,7 @@
 ghost use Rattle.std.specs.Prelude.{◌≡◌, ◌++◌, ◌∷◌, [], ℕ, List, if◌then◌else◌, true, OnOk, IfOk};
 ghost use Rattle.giop_tap.specs.declared.place.Place.{Place};
 ghost use Rattle.giop_tap.specs.Pairing.{Asked, is_about, is_asked, latest, number_of, waiting_after};
-ghost use Rattle.giop_tap.specs.Waiting.{AreRising, AreWaiting, is_same_place, last_of, later_of, numbers_in, without_last};
+ghost use Rattle.giop_tap.specs.Waiting.{AreRising, AreWaiting, is_same_place, last_of, later_of, numbers, numbers_in, without_last};
 
 use crate::part::Part;
 use crate::place::{Place, Wanted};
@@ -79,6 +79,18 @@ fn pop(waiting: &mut Waiting, place: Place) -> Option<u64>
     let number = pop_last(waiting, place);
     forget(waiting, place);
     number
+}
+
+/// The numbers of all that wait, in their order.
+pub(crate) fn all_numbers(alloc: Global, waiting: &Waiting) -> Result<Vec<u64>, AllocError>
+    ensures { (ws : List Asked) → AreRising ws → AreWaiting waiting.now.entries ws → IfOk result (λ v. v.items ≡ numbers ws) }
+{
+    let mut all = Vec::new(alloc);
+    for numbers in waiting.values() {
+        all.extend_from_slice(numbers.as_slice())?;
+    }
+    all.sort_unstable();
+    Ok(all)
 }
 
 /// Takes the next message, and returns the request that it answers or cancels.
