@@ -106,6 +106,22 @@ without-split (f ∷ front) e rest h =
     passes_at [] e rest p h = (or_parts (p (key_of e.key)) (list_any p (keys_at rest)) h).0
     passes_at (f ∷ front) e rest p h = passes_at front e rest p (or_parts (p (key_of f.key)) (list_any p (keys_at (front ++ e ∷ rest))) h).1
 
+-- .. and of no key more than one
+pub without_few : (key : RequestKey) (es : List Entry) → are_distinct (keys_at es) ≡ true → length es ≤ length (without key es) + 1
+without_few key [] h = omega arith
+without_few key (e ∷ es) h =
+    let parts = and_parts (not (list_any (λ k. same_key k (key_of e.key)) (keys_at es))) (are_distinct (keys_at es)) h in
+    by (same_key key (key_of e.key)) refl (false_from_not _ parts.0) (without_few key es parts.1)
+  where
+    by : (b : Bool) → same_key key (key_of e.key) ≡ b → list_any (λ k. same_key k (key_of e.key)) (keys_at es) ≡ false → length es ≤ length (without key es) + 1 → length (e ∷ es) ≤ length (without key (e ∷ es)) + 1
+    by true t none more =
+        let here = ap (λ (k : RequestKey). list_any (λ q. same_key q k) (keys_at es)) (same_is key (key_of e.key) t) ∙ none in
+        let all = (λ i. cond (not (t i)) (e ∷ without key es) (without key es)) ∙ without_none key es here in
+        omega (arith, ap (λ (l : List Entry). length l) all)
+    by false f none more =
+        let all : without key (e ∷ es) ≡ e ∷ without key es = λ i. cond (not (f i)) (e ∷ without key es) (without key es) in
+        omega (arith, ap (λ (l : List Entry). length l) all, more)
+
 pub sum-split : (g : Entry → ℕ) (front : List Entry) (e : Entry) (rest : List Entry) → sum_by g (front ++ rest) + g e ≡ sum_by g (front ++ e ∷ rest)
 sum-split g front e rest =
     let a = sum_by-append g front rest in

@@ -7,7 +7,7 @@ use Rattle.std.proofs.lemmas.Option.{none-some, same_Some}
 use Rattle.ft_log.specs.Filled.{filled_by, put_at, put_if}
 use Rattle.ft_log.specs.Keys.{RequestKey, same_key}
 use Rattle.ft_log.specs.Kept.{KeptOutcome, filled, is_parked}
-use Rattle.ft_log.specs.Maps.{IsRefilled, key_in, slot_of}
+use Rattle.ft_log.specs.Maps.{IsRefilled, due_at, key_in, slot_of}
 use Rattle.ft_log.specs.Holding.{Holding, known}
 use Rattle.ft_log.specs.Placed.{ArePlaced}
 use Rattle.ft_log.specs.Tied.{due_of, outcome_for}
@@ -23,13 +23,17 @@ use Rattle.ft_log.proofs.Entries.{keys_at}
 use Rattle.ft_log.proofs.Listed.{itself, same_is}
 
 -- another value of the same slot under one name
-pub refilled-set : (test : Name → Bool) (es : List (Name × Kept)) (k w : Kept) → lookup test es ≡ Some k → w.slot ≡ k.slot → IsRefilled es (set_value test es w)
-refilled-set test [] k w h same = refl
-refilled-set test (e ∷ es) k w h same = by (test e.0) h (refilled-set test es k w)
+pub refilled-set : (test : Name → Bool) (es : List (Name × Kept)) (k w : Kept) → lookup test es ≡ Some k → w.slot ≡ k.slot → w.until ≡ k.until → IsRefilled es (set_value test es w)
+refilled-set test [] k w h same till = refl
+refilled-set test (e ∷ es) k w h same till = by (test e.0) h (refilled-set test es k w)
   where
-    by : (b : Bool) → cond b (Some e.1) (lookup test es) ≡ Some k → (lookup test es ≡ Some k → w.slot ≡ k.slot → IsRefilled es (set_value test es w)) → map slot_of (cond b ((e.0, w) ∷ es) (e ∷ set_value test es w)) ≡ map slot_of (e ∷ es)
-    by true is more = ap (λ (n : ℕ). (e.0, n) ∷ map slot_of es) (same ∙ ap (λ (x : Kept). x.slot) (sym (same_Some e.1 k is)))
-    by false is more = ap (λ (l : List (Name × ℕ)). slot_of e ∷ l) (more is same)
+    by : (b : Bool) → cond b (Some e.1) (lookup test es) ≡ Some k → (lookup test es ≡ Some k → w.slot ≡ k.slot → w.until ≡ k.until → IsRefilled es (set_value test es w)) → map slot_of (cond b ((e.0, w) ∷ es) (e ∷ set_value test es w)) ≡ map slot_of (e ∷ es)
+    by true is more =
+        let own : e.1 ≡ k = same_Some e.1 k is in
+        let slot : w.slot ≡ e.1.slot = same ∙ ap (λ (x : Kept). x.slot) (sym own) in
+        let until : w.until ≡ e.1.until = till ∙ ap (λ (x : Kept). x.until) (sym own) in
+        λ i. (e.0, slot i, until i) ∷ map slot_of es
+    by false is more = ap (λ (l : List (Name × ℕ × ℕ)). slot_of e ∷ l) (more is same till)
 
 -- what stands at a place has the slot that it had
 pub refilled-at : (old new : List (Name × Kept)) → IsRefilled old new → (x : ℕ) (p : Name × Kept) → slice_get new x ≡ Some p → (q : Name × Kept) × (slice_get old x ≡ Some q) × (q.1.slot ≡ p.1.slot)
@@ -40,7 +44,7 @@ refilled-at (o ∷ old) (n ∷ new) is zero p h =
     let both : slot_of n ∷ map slot_of new ≡ slot_of o ∷ map slot_of old = is in
     let head : slot_of n ≡ slot_of o = cc in
     let at : n ≡ p = same_Some n p h in
-    (o, refl, ap (λ (y : Name × ℕ). y.1) (sym head) ∙ ap (λ (y : Name × Kept). y.1.slot) at)
+    (o, refl, ap (λ (y : Name × ℕ × ℕ). y.1) (sym head) ∙ ap (λ (y : Name × Kept). y.1.slot) at)
 refilled-at (o ∷ old) (n ∷ new) is (suc x) p h =
     let both : slot_of n ∷ map slot_of new ≡ slot_of o ∷ map slot_of old = is in
     let tail : map slot_of new ≡ map slot_of old = cc in
@@ -52,25 +56,25 @@ placed-refilled old new places is h x p at =
     ap places (sym w.2) ∙ h x w.0 w.1
 
 -- sums over the names are as they were
-pub sums-refilled : (f : RequestKey → ℕ) (old new : List (Name × Kept)) → IsRefilled old new → sum_by (λ (p : Name × Kept). f (key_in p.0)) new ≡ sum_by (λ (p : Name × Kept). f (key_in p.0)) old
-sums-refilled f old new is = sym (over f new) ∙ ap (λ (l : List (Name × ℕ)). sum_by (λ (y : Name × ℕ). f (key_in y.0)) l) is ∙ over f old
+pub sums-refilled : (f : ℕ × RequestKey → ℕ) (old new : List (Name × Kept)) → IsRefilled old new → sum_by (λ (p : Name × Kept). f (due_at p)) new ≡ sum_by (λ (p : Name × Kept). f (due_at p)) old
+sums-refilled f old new is = sym (over f new) ∙ ap (λ (l : List (Name × ℕ × ℕ)). sum_by (λ (y : Name × ℕ × ℕ). f (y.2, key_in y.0)) l) is ∙ over f old
   where
-    over : (f : RequestKey → ℕ) (es : List (Name × Kept)) → sum_by (λ (y : Name × ℕ). f (key_in y.0)) (map slot_of es) ≡ sum_by (λ (p : Name × Kept). f (key_in p.0)) es
+    over : (f : ℕ × RequestKey → ℕ) (es : List (Name × Kept)) → sum_by (λ (y : Name × ℕ × ℕ). f (y.2, key_in y.0)) (map slot_of es) ≡ sum_by (λ (p : Name × Kept). f (due_at p)) es
     over f [] = refl
-    over f (e ∷ es) = sum_by-cons (λ (y : Name × ℕ). f (key_in y.0)) (slot_of e) (map slot_of es) ∙ ap (λ (n : ℕ). f (key_in e.0) + n) (over f es) ∙ sym (sum_by-cons (λ (p : Name × Kept). f (key_in p.0)) e es)
+    over f (e ∷ es) = sum_by-cons (λ (y : Name × ℕ × ℕ). f (y.2, key_in y.0)) (slot_of e) (map slot_of es) ∙ ap (λ (n : ℕ). f (due_at e) + n) (over f es) ∙ sym (sum_by-cons (λ (p : Name × Kept). f (due_at p)) e es)
 
 -- what stands under each key, where one has another outcome
 pub under-filled : (number : ℕ) (outcome : Held) (same : Bool) (was now : Option Kept) (k w : Kept) → (same ≡ true → was ≡ Some k) → now ≡ cond same (Some w) was → put_at number outcome k ≡ w → now ≡ cond same (option_map (put_at number outcome) was) was
 under-filled number outcome true was now k w at is put = is ∙ ap (λ (x : Kept). Some x) (sym put) ∙ sym (ap (option_map (put_at number outcome)) (at refl))
 under-filled number outcome false was now k w at is put = is
 
-put-yes : (number : ℕ) (outcome : Held) (k : Kept) → is_parked number (holding_in k.outcome) ≡ true → put_at number outcome k ≡ record { slot = k.slot; outcome = outcome }
-put-yes number outcome k is = ap (λ (b : Bool). cond b (record { slot = k.slot; outcome = outcome }) k) is
+put-yes : (number : ℕ) (outcome : Held) (k : Kept) → is_parked number (holding_in k.outcome) ≡ true → put_at number outcome k ≡ record { slot = k.slot; until = k.until; outcome = outcome }
+put-yes number outcome k is = ap (λ (b : Bool). cond b (record { slot = k.slot; until = k.until; outcome = outcome }) k) is
 
 put-no : (number : ℕ) (outcome : Held) (k : Kept) → is_parked number (holding_in k.outcome) ≡ false → put_at number outcome k ≡ k
-put-no number outcome k is = ap (λ (b : Bool). cond b (record { slot = k.slot; outcome = outcome }) k) is
+put-no number outcome k is = ap (λ (b : Bool). cond b (record { slot = k.slot; until = k.until; outcome = outcome }) k) is
 
-pub put-yes-is : (number : ℕ) (outcome : Held) (k : Kept) → is_parked number (holding_in k.outcome) ≡ true → put_at number outcome k ≡ record { slot = k.slot; outcome = outcome }
+pub put-yes-is : (number : ℕ) (outcome : Held) (k : Kept) → is_parked number (holding_in k.outcome) ≡ true → put_at number outcome k ≡ record { slot = k.slot; until = k.until; outcome = outcome }
 put-yes-is number outcome k is = put-yes number outcome k is
 
 pub put-no-is : (number : ℕ) (outcome : Held) (k : Kept) → is_parked number (holding_in k.outcome) ≡ false → put_at number outcome k ≡ k
@@ -160,7 +164,7 @@ pub map-kept : (number : ℕ) (outcome : Held) (b : Bool) (o : Option Kept) → 
 map-kept number outcome true None = refl
 map-kept number outcome true (Some k) = ap (λ (x : Held). Some x) (by (is_parked number (holding_in k.outcome)))
   where
-    by : (p : Bool) → (cond p (record { slot = k.slot; outcome = outcome }) k).outcome ≡ cond p outcome k.outcome
+    by : (p : Bool) → (cond p (record { slot = k.slot; until = k.until; outcome = outcome }) k).outcome ≡ cond p outcome k.outcome
     by true = refl
     by false = refl
 map-kept number outcome false o = refl
@@ -169,7 +173,7 @@ pub slot-kept : (number : ℕ) (outcome : Held) (b : Bool) (o : Option Kept) →
 slot-kept number outcome true None = refl
 slot-kept number outcome true (Some k) = ap (λ (n : ℕ). Some n) (by (is_parked number (holding_in k.outcome)))
   where
-    by : (p : Bool) → (cond p (record { slot = k.slot; outcome = outcome }) k).slot ≡ k.slot
+    by : (p : Bool) → (cond p (record { slot = k.slot; until = k.until; outcome = outcome }) k).slot ≡ k.slot
     by true = refl
     by false = refl
 slot-kept number outcome false o = refl

@@ -12,3 +12,12 @@ pub mod Ready
 pub mod Slotted
 pub mod Filling
 pub mod Withdrawn
+pub mod Timed
+pub mod Looked
+pub mod Live
+pub mod Sought
+pub mod Scanned
+pub mod Lapsed
+pub mod Seen
+pub mod Gone
+pub mod Shares

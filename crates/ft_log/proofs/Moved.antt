@@ -6,8 +6,8 @@ use Rattle.std.specs.Map.{lookup}
 use Rattle.ft_log.specs.Dues.{dues}
 use Rattle.ft_log.specs.Keys.{RequestKey, held_of}
 use Rattle.ft_log.specs.Names.{is_named}
-use Rattle.ft_log.specs.Maps.{Counts, held_at, key_in}
-use Rattle.ft_log.specs.Tied.{AreDues, AreOutcomes, due_in, is_slotted}
+use Rattle.ft_log.specs.Maps.{Counts, due_at, held_at}
+use Rattle.ft_log.specs.Tied.{AreDues, AreOutcomes, due_in, due_of, is_slotted}
 use Rattle.ft_log.specs.View.{key_of}
 use Rattle.ft_log.specs.declared.story.Entry.{Entry}
 use Rattle.ft_log.specs.declared.due.Due.{Due}
@@ -22,8 +22,8 @@ module _ (m n : Shelf) (same : n.outcomes.entries ≡ m.outcomes.entries) where
   pub found_in : (es : List Entry) → AreOutcomes m es → AreOutcomes n es
   found_in es found key = ap (λ l. option_map (λ k. k.outcome) (lookup (is_named key.client_id (Some key.retention_id)) l)) same ∙ found key
 
-  pub listed_in : (ks : List RequestKey) → ((f : RequestKey → ℕ) → sum_by (λ p. f (key_in p.0)) m.outcomes.entries ≡ sum_by f ks) → (f : RequestKey → ℕ) → sum_by (λ p. f (key_in p.0)) n.outcomes.entries ≡ sum_by f ks
-  listed_in ks listed f = ap (sum_by (λ p. f (key_in p.0))) same ∙ listed f
+  pub listed_in : (es : List Entry) → ((f : ℕ × RequestKey → ℕ) → sum_by (λ p. f (due_at p)) m.outcomes.entries ≡ sum_by (λ e. f (due_of e)) es) → (f : ℕ × RequestKey → ℕ) → sum_by (λ p. f (due_at p)) n.outcomes.entries ≡ sum_by (λ e. f (due_of e)) es
+  listed_in es listed f = ap (sum_by (λ p. f (due_at p))) same ∙ listed f
 
   pub slotted_in : (d : Due) → is_slotted n d ≡ is_slotted m d
   slotted_in d = ap (λ l. option_eq nat_eq (option_map (λ k. k.slot) (lookup (is_named (key_of d.key.key).client_id (Some (key_of d.key.key).retention_id)) l)) (Some d.slot)) same

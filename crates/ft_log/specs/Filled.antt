@@ -20,4 +20,4 @@ filled_by e es = map (put_in (key_of e.key) e.expiration e.outcome) es
 
 -- the same of what stands under a key
 abbrev pub put_at : ℕ → Held → Kept → Kept
-put_at number outcome k = if is_parked number (holding_in k.outcome) then record { slot = k.slot; outcome = outcome } else k
+put_at number outcome k = if is_parked number (holding_in k.outcome) then record { slot = k.slot; until = k.until; outcome = outcome } else k

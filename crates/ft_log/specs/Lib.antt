@@ -7,7 +7,7 @@
 --   Keys        keys of requests, when two are one, how many a client has, and how many clients
 --   Kept        kept outcomes: which is found for a key, and which are forgotten
 --   View        what a `Key`, an `Outcome`, a `Held` and an entry of the code stand for
---   Logged      what a `Log` stands for, and how many slots and expirations it has
+--   Logged      what a `Log` stands for, its clock, and how many slots, expirations and forgotten outcomes it has
 -- Store         what shows of a `Log`, by its fields
 -- Laws          what the tests of keys say, and of repository ids
 -- Names, Maps, Places, Placed, Shelf, Queue, Dues, Without, Filled, Tied      words for the fields of a `Log`; no public contract, definition or law uses them

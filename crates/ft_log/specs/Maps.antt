@@ -6,6 +6,7 @@ use Rattle.std.specs.declared.random_state.RandomState.{RandomState}
 use Rattle.indexmap.specs.IndexMap.{IndexMap, get_by, spare}
 use Rattle.ft_log.specs.Keys.{RequestKey}
 use Rattle.ft_log.specs.Names.{is_named}
+use Rattle.ft_log.specs.declared.key.Key.{Key}
 use Rattle.ft_log.specs.declared.name.Name.{Name}
 use Rattle.ft_log.specs.declared.shelf.Kept.{Kept}
 
@@ -18,6 +19,10 @@ Counts = IndexMap Name ℕ RandomState
 -- the key that a name with a number stands for
 abbrev pub key_in : Name → RequestKey
 key_in n = record { client_id = n.client_id.items; retention_id = unwrap_or n.number (to_z w32 0) }
+
+-- the same, as a mark has it
+abbrev pub marked_in : Name → Key
+marked_in n = record { client_id = n.client_id; retention_id = unwrap_or n.number (to_z w32 0) }
 
 -- what stands under a key
 abbrev pub under : Outcomes → RequestKey → Option Kept
@@ -37,10 +42,14 @@ held_at m client = unwrap_or (get_by (is_named client None) m) 0
 abbrev pub is_countable : Bool → Counts → Bool
 is_countable is_counted m = not is_counted || nat_lt 0 (spare m)
 
--- a name with the slot of what stands under it
-abbrev pub slot_of : Name × Kept → Name × ℕ
-slot_of p = (p.0, p.1.slot)
+-- what stands under a name, as an entry stands in the order of expirations
+abbrev pub due_at : Name × Kept → ℕ × RequestKey
+due_at p = (p.1.until, key_in p.0)
 
--- the same names in the same order, each with the slot that it had
+-- a name with the slot and the expiration of what stands under it
+abbrev pub slot_of : Name × Kept → Name × ℕ × ℕ
+slot_of p = (p.0, p.1.slot, p.1.until)
+
+-- the same names in the same order, each with the slot and the expiration that it had
 abbrev pub IsRefilled : List (Name × Kept) → List (Name × Kept) → Type 0
 IsRefilled old new = map slot_of new ≡ map slot_of old

@@ -1,5 +1,5 @@
 -- What a `Key`, an `Outcome`, a `Held` and an entry of the code stand for: the same with its vectors left out.
-use Rattle.std.specs.Prelude.{List, map}
+use Rattle.std.specs.Prelude.{List, [], ◌∷◌, map}
 use Rattle.cdr_core.specs.View.{values_of}
 use Rattle.ft_log.specs.Holding.{Holding, known, parked}
 use Rattle.ft_log.specs.Keys.{RequestKey}
@@ -10,7 +10,7 @@ use Rattle.ft_log.specs.declared.held.Held.{Held}
 use Rattle.ft_log.specs.declared.held.Held.TheVariants.{Known, Parked}
 use Rattle.ft_log.specs.declared.key.Key.{Key}
 use Rattle.ft_log.specs.declared.outcome.Outcome.{Outcome}
-use Rattle.ft_log.specs.declared.outcome.Outcome.TheVariants.{Raw, Returned, Raised, System}
+use Rattle.ft_log.specs.declared.outcome.Outcome.TheVariants.{One, Raw, Returned, Raised, System}
 
 -- the key that a `Key` stands for
 abbrev pub key_of : Key → RequestKey
@@ -19,6 +19,7 @@ key_of k = record { client_id = k.client_id.items; retention_id = k.retention_id
 -- what an `Outcome` stands for
 abbrev pub performed_in : Outcome → Performed
 performed_in (Returned results) = returned (values_of results.items)
+performed_in (One result) = returned (values_of (result ∷ []))
 performed_in (Raised id members) = raised id.items (values_of members.items)
 performed_in (System name minor completion) = system name minor completion
 performed_in (Raw status order body) = raw status order body.items

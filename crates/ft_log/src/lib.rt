@@ -20,6 +20,7 @@ mod queue;
 mod retention;
 mod room;
 mod shelf;
+mod stale;
 mod store;
 mod story;
 mod system_exception;

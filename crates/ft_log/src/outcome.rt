@@ -41,6 +41,8 @@ impl RawStatus {
 pub enum Outcome {
     /// The results: the return value, and then the out and inout parameters in order.
     Returned(Vec<Val>),
+    /// The results where there is one, the return value or one parameter: as `Returned` of it alone, without a vector.
+    One(Val),
     /// An exception that the operation declares: its repository id without its NUL, and its members.
     Raised(Vec<u8>, Vec<Val>),
     /// A system exception: its name, its minor code, and whether the operation was completed.
@@ -57,6 +59,7 @@ impl Outcome {
     {
         match self {
             Outcome::Returned(results) => Ok(Outcome::Returned(copied(alloc, results)?)),
+            Outcome::One(result) => Ok(Outcome::One(result.copy(alloc)?)),
             Outcome::Raised(id, members) => {
                 let id = Vec::from_slice(alloc, id)?;
                 Ok(Outcome::Raised(id, copied(alloc, members)?))

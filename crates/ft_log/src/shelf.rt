@@ -1,12 +1,13 @@
 //! What a log keeps under keys.
 
-ghost use Rattle.std.specs.Prelude.{◌≡◌, ◌<◌, if◌then◌else◌, ℕ, Some, None, bytes_eq, option_map, slice_get, true, false};
+ghost use Rattle.std.specs.Prelude.{◌≡◌, ◌<◌, ◌&&◌, if◌then◌else◌, ℕ, Some, None, IfNone, IfSome, bytes_eq, nat_le, option_map, slice_get, true, false};
 ghost use Rattle.std.specs.Option.{option_copied, option_map_or};
 ghost use Rattle.indexmap.specs.IndexMap.{index_map_len, spare};
 ghost use Rattle.ft_log.specs.Filled.{put_at};
 ghost use Rattle.ft_log.specs.Keys.{RequestKey, same_key};
 ghost use Rattle.ft_log.specs.Kept.{is_parked};
-ghost use Rattle.ft_log.specs.Maps.{IsPushed, IsRefilled, key_in, under};
+ghost use Rattle.ft_log.specs.Maps.{IsPushed, IsRefilled, due_at, key_in, under};
+ghost use Rattle.ft_log.specs.Shelf.{IsStale, is_stale, lesser};
 ghost use Rattle.ft_log.specs.View.{holding_in, key_of};
 
 use crate::due::Spot;
@@ -18,11 +19,25 @@ use indexmap::IndexMap;
 use std::alloc::{AllocError, Global};
 use std::hash::RandomState;
 
-/// What is kept for a request, and the slot that has its place.
+/// What is kept for a request, the slot that has its place, and the last moment at which it is repeated.
 #[derive(Drop)]
 pub(crate) struct Kept {
     pub(crate) slot: usize,
+    pub(crate) until: u64,
     pub(crate) outcome: Held,
+}
+
+impl Kept {
+    /// The outcome, where it is repeated at a moment.
+    fn outcome_from(&self, now: u64) -> Option<&Held>
+        ensures { option_copied result ≡ (if nat_le now self.now.until then Some self.now.outcome else None) }
+    {
+        if now <= self.until {
+            Some(&self.outcome)
+        } else {
+            None
+        }
+    }
 }
 
 /// Outcomes by their keys.
@@ -35,9 +50,9 @@ pub(crate) struct Shelf {
 }
 
 impl Shelf {
-    ghost use Rattle.std.specs.Prelude.{◌+◌, [], IsTrue, OnOk, IfNone, IfSome, length};
+    ghost use Rattle.std.specs.Prelude.{◌+◌, [], IsTrue, OnOk, length};
     ghost use Rattle.std.specs.List.{count_by, sum_by};
-    ghost use Rattle.ft_log.specs.Shelf.{IsTaken, at_key, has_room, is_at, kept_at, slot_at};
+    ghost use Rattle.ft_log.specs.Shelf.{IsLeast, IsStale, IsTaken, at_key, has_room, is_at, is_stale, kept_at, live_at, slot_at, until_in};
 
     /// No outcome.
     pub(crate) fn new(alloc: Global, hasher: RandomState) -> Shelf
@@ -48,31 +63,75 @@ impl Shelf {
         }
     }
 
-    /// What is kept for a key.
-    pub(crate) fn outcome_at(&self, key: &Key) -> Option<&Held>
-        ensures { option_copied result ≡ kept_at self.now (key_of key.now) }
+    /// What stands under a key.
+    fn kept_under(&self, key: &Key) -> Option<&Kept>
+        ensures { option_copied result ≡ at_key self.now (key_of key.now) }
     {
         let name = Lent {
             client_id: key.client_id.as_slice(),
             number: Some(key.retention_id),
         };
-        match self.outcomes.get(name) {
-            Some(kept) => Some(&kept.outcome),
+        self.outcomes.get(name)
+    }
+
+    /// What is kept for a key, where it is repeated at a moment.
+    pub(crate) fn outcome_at(&self, key: &Key, now: u64) -> Option<&Held>
+        ensures { option_copied result ≡ live_at now (at_key self.now (key_of key.now)) }
+    {
+        match self.kept_under(key) {
+            Some(kept) => kept.outcome_from(now),
             None => None,
         }
     }
 
-    /// How many of the outcomes are a client's.
-    pub(crate) fn held_by(&self, client_id: &[u8]) -> usize
-        ensures { result ≡ count_by (λ p. bytes_eq (key_in p.0).client_id client_id.now) self.now.outcomes.entries }
+    /// How many of the outcomes are repeated at a moment.
+    pub(crate) fn len_from(&self, now: u64) -> usize
+        ensures { result ≡ count_by (λ p. nat_le now p.1.until) self.now.outcomes.entries }
+    {
+        let mut live = 0;
+        for place in 0..self.outcomes.len() {
+            if is_live_at(&self.outcomes, place, now) {
+                live += 1;
+            }
+        }
+        live
+    }
+
+    /// How many of these are a client's.
+    pub(crate) fn held_by(&self, client_id: &[u8], now: u64) -> usize
+        ensures { result ≡ count_by (λ p. nat_le now p.1.until && bytes_eq (key_in p.0).client_id client_id.now) self.now.outcomes.entries }
     {
         let mut held = 0;
         for place in 0..self.outcomes.len() {
-            if is_held_at(&self.outcomes, place, client_id) {
+            if is_held_at(&self.outcomes, place, client_id, now) {
                 held += 1;
             }
         }
         held
+    }
+
+    /// The least expiration of these.
+    pub(crate) fn least_from(&self, now: u64) -> Option<u64>
+        ensures { IsLeast now result self.now.outcomes.entries }
+    {
+        let mut least = None;
+        for place in 0..self.outcomes.len() {
+            least = lesser_at(&self.outcomes, place, now, least);
+        }
+        least
+    }
+
+    /// Where the first of these is that expired before a moment and is a client's, if there is one.
+    pub(crate) fn stale_of(&self, client_id: &[u8], now: u64) -> Option<Spot>
+        ensures none { IfNone result (count_by (is_stale now client_id.now) self.now.outcomes.entries ≡ 0) }
+        ensures stale { IfSome result (λ spot. IsStale spot now client_id.now self.now.outcomes.entries) }
+    {
+        for place in 0..self.outcomes.len() {
+            if let Some(spot) = stale_at(&self.outcomes, place, client_id, now) {
+                return Some(spot);
+            }
+        }
+        None
     }
 
     /// How many outcomes: the place of the next.
@@ -95,7 +154,7 @@ impl Shelf {
         requires absent { at_key self.old (key_of key) ≡ None }
         requires room { IsTrue (has_room self.old) }
         ensures kept { (other : RequestKey) → at_key self.new other ≡ (if same_key other (key_of key) then Some kept else at_key self.old other) }
-        ensures sums { (f : RequestKey → ℕ) → sum_by (λ p. f (key_in p.0)) self.new.outcomes.entries ≡ sum_by (λ p. f (key_in p.0)) self.old.outcomes.entries + f (key_of key) }
+        ensures sums { (f : ℕ × RequestKey → ℕ) → sum_by (λ p. f (due_at p)) self.new.outcomes.entries ≡ sum_by (λ p. f (due_at p)) self.old.outcomes.entries + f (kept.until, key_of key) }
         ensures last { IsPushed (key_of key) kept self.old.outcomes.entries self.new.outcomes.entries }
     {
         insert(&mut self.outcomes, key, kept);
@@ -104,7 +163,7 @@ impl Shelf {
     /// Puts an outcome under a key, where the call of this number is parked there.
     pub(crate) fn fill(&mut self, key: Key, number: u64, outcome: Held)
         ensures kept { (other : RequestKey) → at_key self.new other ≡ (if same_key other (key_of key) then option_map (put_at number outcome) (at_key self.old other) else at_key self.old other) }
-        ensures sums { (f : RequestKey → ℕ) → sum_by (λ p. f (key_in p.0)) self.new.outcomes.entries ≡ sum_by (λ p. f (key_in p.0)) self.old.outcomes.entries }
+        ensures sums { (f : ℕ × RequestKey → ℕ) → sum_by (λ p. f (due_at p)) self.new.outcomes.entries ≡ sum_by (λ p. f (due_at p)) self.old.outcomes.entries }
         ensures room { has_room self.new ≡ has_room self.old }
         ensures len { index_map_len self.new.outcomes ≡ index_map_len self.old.outcomes }
         ensures is { IsRefilled self.old.outcomes.entries self.new.outcomes.entries }
@@ -135,12 +194,31 @@ impl Shelf {
         None
     }
 
+    /// Where what is kept for a key is, if there is something.
+    pub(crate) fn spot_of(&self, key: &Key) -> Option<Spot>
+        ensures none { IfNone result (at_key self.now (key_of key.now) ≡ None) }
+        ensures key { IfSome result (λ spot. key_of spot.key.key ≡ key_of key.now) }
+        ensures slot { IfSome result (λ spot. slot_at self.now (key_of key.now) ≡ Some spot.slot) }
+        ensures place { IfSome result (λ spot. option_map (λ p. p.1.slot) (slice_get self.now.outcomes.entries spot.place) ≡ Some spot.slot) }
+    {
+        let name = Lent {
+            client_id: key.client_id.as_slice(),
+            number: Some(key.retention_id),
+        };
+        let (place, _, kept) = self.outcomes.get_full(name)?;
+        Some(Spot {
+            slot: kept.slot,
+            place,
+            key: Mark::of(key),
+        })
+    }
+
     /// Takes the outcome of a key away, by its place, and gives the client.
     pub(crate) fn take(&mut self, place: usize, _key: &Mark) -> Vec<u8>
         requires { IsTrue (is_at (key_of _key.now.key) place self.old) }
         ensures client { result.items ≡ (key_of _key.now.key).client_id }
         ensures kept { (other : RequestKey) → at_key self.new other ≡ (if same_key other (key_of _key.now.key) then None else at_key self.old other) }
-        ensures sums { (f : RequestKey → ℕ) → sum_by (λ p. f (key_in p.0)) self.new.outcomes.entries + f (key_of _key.now.key) ≡ sum_by (λ p. f (key_in p.0)) self.old.outcomes.entries }
+        ensures sums { (f : ℕ × RequestKey → ℕ) → sum_by (λ p. f (due_at p)) self.new.outcomes.entries + f (until_in place self.old, key_of _key.now.key) ≡ sum_by (λ p. f (due_at p)) self.old.outcomes.entries }
         ensures room { IsTrue (has_room self.old) → IsTrue (has_room self.new) }
         ensures taken { IsTaken place self.old.outcomes.entries self.new.outcomes.entries }
     {
@@ -195,12 +273,61 @@ fn refill(outcomes: &mut Outcomes, key: Key, number: u64, outcome: Held)
     }
 }
 
-/// Whether the outcome in a place is a client's.
-fn is_held_at(outcomes: &Outcomes, place: usize, client_id: &[u8]) -> bool
-    ensures { result ≡ option_map_or (λ p. bytes_eq (key_in p.0).client_id client_id.now) (slice_get outcomes.now.entries place) false }
+/// Whether the outcome in a place is repeated at a moment.
+fn is_live_at(outcomes: &Outcomes, place: usize, now: u64) -> bool
+    ensures { result ≡ option_map_or (λ p. nat_le now p.1.until) (slice_get outcomes.now.entries place) false }
 {
     match outcomes.get_index(place) {
-        Some((name, _)) => name.client_id.as_slice() == client_id,
+        Some((_, kept)) => now <= kept.until,
         None => false,
+    }
+}
+
+/// .. and is a client's.
+fn is_held_at(outcomes: &Outcomes, place: usize, client_id: &[u8], now: u64) -> bool
+    ensures { result ≡ option_map_or (λ p. nat_le now p.1.until && bytes_eq (key_in p.0).client_id client_id.now) (slice_get outcomes.now.entries place) false }
+{
+    match outcomes.get_index(place) {
+        Some((name, kept)) => now <= kept.until && name.client_id.as_slice() == client_id,
+        None => false,
+    }
+}
+
+/// Where the outcome in a place is, if it expired before a moment and is a client's.
+fn stale_at(outcomes: &Outcomes, place: usize, client_id: &[u8], now: u64) -> Option<Spot>
+    ensures none { IfNone result (option_map_or (is_stale now client_id.now) (slice_get outcomes.now.entries place) false ≡ false) }
+    ensures stale { IfSome result (λ spot. IsStale spot now client_id.now outcomes.now.entries) }
+{
+    let (name, kept) = outcomes.get_index(place)?;
+    if kept.until < now && name.client_id.as_slice() == client_id {
+        return Some(Spot {
+            slot: kept.slot,
+            place,
+            key: Mark::named(name),
+        });
+    }
+    None
+}
+
+/// The lesser of this expiration and of that of the outcome in a place, where that is repeated at a moment.
+fn lesser_at(outcomes: &Outcomes, place: usize, now: u64, least: Option<u64>) -> Option<u64>
+    ensures { result ≡ option_map_or (λ p. lesser now p.1.until least) (slice_get outcomes.now.entries place) least }
+{
+    match outcomes.get_index(place) {
+        Some((_, kept)) => lesser(now, kept.until, least),
+        None => least,
+    }
+}
+
+/// The lesser of this expiration and of another one, where that is not before a moment.
+fn lesser(now: u64, until: u64, least: Option<u64>) -> Option<u64>
+    ensures { result ≡ lesser now until least }
+{
+    if until < now {
+        return least;
+    }
+    match least {
+        Some(moment) => Some(moment.min(until)),
+        None => Some(until),
     }
 }

@@ -6,9 +6,9 @@ ghost use Rattle.indexmap.specs.IndexMap.{index_map_len};
 ghost use Rattle.ft_log.specs.Dues.{dues, places, under};
 ghost use Rattle.ft_log.specs.Keys.{RequestKey, are_distinct, clients_in, held_of};
 ghost use Rattle.ft_log.specs.Kept.{keys_of};
-ghost use Rattle.ft_log.specs.Maps.{held_at, key_in};
+ghost use Rattle.ft_log.specs.Maps.{due_at, held_at};
 ghost use Rattle.ft_log.specs.Placed.{ArePlaced, ArePlaced-prop};
-ghost use Rattle.ft_log.specs.Tied.{AreDues, AreOutcomes, AreOutcomes-prop, is_copied, is_free, is_ready, is_slotted};
+ghost use Rattle.ft_log.specs.Tied.{AreDues, AreOutcomes, AreOutcomes-prop, due_of, is_copied, is_free, is_ready, is_slotted};
 ghost use Rattle.ft_log.specs.View.{entries_at, key_of};
 
 use crate::counts::{Counts, count_down_if, count_of, count_up_if, reserve_if};
@@ -44,7 +44,7 @@ pub(crate) struct Store {
     ghost distinct: { IsTrue (are_distinct (keys_of (entries_at story.entries))) },
     ghost shared: { (client : List ℕ) → held_of client (keys_of (entries_at story.entries)) ≤ share },
     ghost found: { AreOutcomes kept story.entries } by { AreOutcomes-prop kept story.entries },
-    ghost listed: { (f : RequestKey → ℕ) → sum_by (λ p. f (key_in p.0)) kept.outcomes.entries ≡ sum_by f (keys_of (entries_at story.entries)) },
+    ghost listed: { (f : ℕ × RequestKey → ℕ) → sum_by (λ p. f (due_at p)) kept.outcomes.entries ≡ sum_by (λ e. f (due_of e)) story.entries },
     ghost counted: { IsTrue (nat_lt share capacity) → (client : List ℕ) → held_at counts client ≡ held_of client (keys_of (entries_at story.entries)) },
     ghost slim: { index_map_len counts ≤ (if nat_lt share capacity then clients_in (keys_of (entries_at story.entries)) else 0) },
     ghost dated: { AreDues order story.entries },
@@ -81,12 +81,12 @@ impl Store {
         }
     }
 
-    /// What is kept for a key.
+    /// What is kept for a key, where it is repeated at a moment.
     #[tactic(auto, unfolding(crate::specs::Logged::logged))]
-    pub(crate) fn find(&self, key: &Key) -> Option<&Held>
-        ensures { option_map (λ o. holding_in o.now) result ≡ kept_for (key_of key.now) (logged (shown self.now)).entries }
+    pub(crate) fn find(&self, key: &Key, now: u64) -> Option<&Held>
+        ensures { option_map (λ o. holding_in o.now) result ≡ kept_for (key_of key.now) (unexpired now (logged (shown self.now)).entries) }
     {
-        self.kept.outcome_at(key)
+        self.kept.outcome_at(key, now)
     }
 
     /// How many outcomes are kept.
@@ -98,18 +98,44 @@ impl Store {
         self.order.len()
     }
 
-    /// How many outcomes of a client are kept.
+    /// How many of them are repeated at a moment. Where something expired before it, they are looked at one by one.
     #[tactic(auto, unfolding(crate::specs::Logged::logged))]
-    pub(crate) fn held_by(&self, client_id: &[u8]) -> u32
-        ensures held { result ≡ held_of client_id.now (keys_of (logged (shown self.now)).entries) }
+    pub(crate) fn len_from(&self, now: u64) -> usize
+        ensures length { result ≡ length (unexpired now (logged (shown self.now)).entries) }
+        ensures bound { result ≤ (logged (shown self.now)).capacity }
+    {
+        if self.has_stale(now) {
+            self.kept.len_from(now)
+        } else {
+            self.len()
+        }
+    }
+
+    /// How many outcomes of a client are repeated at a moment. Where clients are not counted, or something expired before it,
+    /// they are looked at one by one.
+    #[tactic(auto, unfolding(crate::specs::Logged::logged))]
+    pub(crate) fn held_from(&self, client_id: &[u8], now: u64) -> u32
+        ensures held { result ≡ held_of client_id.now (keys_of (unexpired now (logged (shown self.now)).entries)) }
         ensures bound { result ≤ (logged (shown self.now)).share }
     {
         let _share = self.share;
-        if self.counts_clients() {
+        if self.is_counted_from(now) {
             count_of(&self.counts, client_id)
         } else {
-            self.kept.held_by(client_id) as u32
+            self.kept.held_by(client_id, now) as u32
         }
+    }
+
+    /// Whether clients are counted, and nothing expired before a moment.
+    #[tactic(auto, unfolding(crate::specs::Logged::logged))]
+    fn is_counted_from(&self, now: u64) -> bool
+        ensures counts { result ≡ true → nat_lt (logged (shown self.now)).share (logged (shown self.now)).capacity ≡ true }
+        ensures stays { result ≡ true → unexpired now (logged (shown self.now)).entries ≡ (logged (shown self.now)).entries }
+    {
+        if self.has_stale(now) {
+            return false;
+        }
+        self.counts_clients()
     }
 
     /// Whether the share is below the capacity. Where it isn't, no client can have its share before the log is full, and
@@ -131,6 +157,30 @@ impl Store {
         self.order.least()
     }
 
+    /// The least expiration of what is repeated at a moment. Where something expired before it, they are looked at one by one.
+    #[tactic(auto, unfolding(crate::specs::Logged::logged))]
+    pub(crate) fn next_from(&self, now: u64) -> Option<u64>
+        ensures { result ≡ least_expiration (unexpired now (logged (shown self.now)).entries) }
+    {
+        if self.has_stale(now) {
+            self.kept.least_from(now)
+        } else {
+            self.next_expiry()
+        }
+    }
+
+    /// Whether something expired before a moment.
+    #[tactic(auto, unfolding(crate::specs::Logged::logged))]
+    pub(crate) fn has_stale(&self, now: u64) -> bool
+        ensures yes { result ≡ true → length (unexpired now (logged (shown self.now)).entries) < length (logged (shown self.now)).entries }
+        ensures no { result ≡ false → unexpired now (logged (shown self.now)).entries ≡ (logged (shown self.now)).entries }
+    {
+        match self.next_expiry() {
+            Some(least) => least < now,
+            None => false,
+        }
+    }
+
     /// Drops exactly the entries whose expiration lies before a moment, given as the number of 100 ns
     /// since 15 October 1582.
     #[tactic(auto, unfolding(crate::specs::Logged::logged))]
@@ -142,11 +192,13 @@ impl Store {
 
     /// Drops one entry whose expiration lies before a moment, and says whether there was one.
     #[tactic(auto, unfolding(crate::specs::Logged::logged))]
-    fn forget_next(&mut self, now: u64) -> bool
-        ensures fewer { IsTrue result → length (logged (shown self.new)).entries < length (logged (shown self.old)).entries }
+    pub(crate) fn forget_next(&mut self, now: u64) -> bool
+        ensures one { length (logged (shown self.new)).entries + (if result then 1 else 0) ≡ length (logged (shown self.old)).entries }
         ensures none { result ≡ false → unexpired now (logged (shown self.new)).entries ≡ (logged (shown self.new)).entries }
         ensures same { unexpired now (logged (shown self.new)).entries ≡ unexpired now (logged (shown self.old)).entries }
+        ensures absent { (key : RequestKey) → kept_for key (logged (shown self.old)).entries ≡ None → kept_for key (logged (shown self.new)).entries ≡ None }
         ensures others { logged (shown self.new) ≡ record (logged (shown self.old)) { entries = (logged (shown self.new)).entries } }
+        ensures held { (client : List ℕ) → held_of client (keys_of (logged (shown self.new)).entries) ≤ held_of client (keys_of (logged (shown self.old)).entries) }
     {
         match self.order.before(now) {
             Some(spot) => {
@@ -154,6 +206,36 @@ impl Store {
                 true
             }
             None => false,
+        }
+    }
+
+    /// Drops one entry of a client whose expiration lies before a moment, if there is one. They are looked at one by one.
+    #[tactic(auto, unfolding(crate::specs::Logged::logged))]
+    pub(crate) fn forget_one_of(&mut self, client_id: &[u8], now: u64)
+        ensures same { unexpired now (logged (shown self.new)).entries ≡ unexpired now (logged (shown self.old)).entries }
+        ensures absent { (key : RequestKey) → kept_for key (logged (shown self.old)).entries ≡ None → kept_for key (logged (shown self.new)).entries ≡ None }
+        ensures full { length (logged (shown self.new)).entries ≡ (logged (shown self.new)).capacity → (logged (shown self.new)).entries ≡ (logged (shown self.old)).entries }
+        ensures share { held_of client_id.now (keys_of (logged (shown self.new)).entries) ≡ (logged (shown self.new)).share
+            → held_of client_id.now (keys_of (unexpired now (logged (shown self.new)).entries)) ≡ (logged (shown self.new)).share }
+        ensures others { logged (shown self.new) ≡ record (logged (shown self.old)) { entries = (logged (shown self.new)).entries } }
+        ensures few { length (logged (shown self.old)).entries ≤ length (logged (shown self.new)).entries + 1 }
+    {
+        match self.kept.stale_of(client_id, now) {
+            Some(spot) => self.take_out(spot),
+            None => {}
+        }
+    }
+
+    /// Takes out what is kept for a key, if there is something.
+    #[tactic(auto, unfolding(crate::specs::Logged::logged))]
+    pub(crate) fn take_key(&mut self, key: &Key)
+        ensures entries { self.new.story.entries ≡ without (key_of key.now) self.old.story.entries }
+        ensures others { logged (shown self.new) ≡ record (logged (shown self.old)) { entries = (logged (shown self.new)).entries } }
+        ensures few { length (logged (shown self.old)).entries ≤ length (logged (shown self.new)).entries + 1 }
+    {
+        match self.kept.spot_of(key) {
+            Some(spot) => self.take_out(spot),
+            None => {}
         }
     }
 
@@ -176,7 +258,7 @@ impl Store {
 
     /// Whether a client has its share, in a log that isn't full.
     #[tactic(auto, unfolding(crate::specs::Logged::logged))]
-    fn is_share_full(&self, client_id: &[u8]) -> bool
+    pub(crate) fn is_share_full(&self, client_id: &[u8]) -> bool
         requires { length (logged (shown self.now)).entries < (logged (shown self.now)).capacity }
         ensures yes { result ≡ true → held_of client_id.now (keys_of (logged (shown self.now)).entries) ≡ (logged (shown self.now)).share }
         ensures no { result ≡ false → held_of client_id.now (keys_of (logged (shown self.now)).entries) < (logged (shown self.now)).share }
@@ -196,6 +278,7 @@ impl Store {
             × (held_of (key_of key.now).client_id (keys_of (logged (shown self.old)).entries) ≡ (logged (shown self.old)).share)) }
         ensures within { OnOk result (length (logged (shown self.old)).entries < (logged (shown self.old)).capacity) }
         ensures shared { OnOk result (held_of (key_of key.now).client_id (keys_of (logged (shown self.old)).entries) < (logged (shown self.old)).share) }
+        ensures same { (logged (shown self.new)).entries ≡ (logged (shown self.old)).entries }
     {
         self.room = None;
         if self.len() == self.capacity as usize {
@@ -235,8 +318,12 @@ impl Store {
         };
         self.story = Story::with(&self.story, &entry);
         let slot = self.order.push(expiration, room.key, self.kept.len());
-        let outcome = entry.outcome;
-        self.kept.put(entry.key, Kept { slot, outcome });
+        let kept = Kept {
+            slot,
+            until: expiration,
+            outcome: entry.outcome,
+        };
+        self.kept.put(entry.key, kept);
         count_up_if(counts, &mut self.counts, room.client_id);
     }
 

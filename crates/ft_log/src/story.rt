@@ -6,6 +6,7 @@ ghost use Rattle.std.specs.Coded.{coded_list};
 ghost use Rattle.ft_log.specs.contracts.key.Key as key_row;
 ghost use Rattle.ft_log.specs.contracts.story.Entry.{the_row};
 ghost use Rattle.ft_log.specs.Filled.{filled_by};
+ghost use Rattle.ft_log.specs.Maps.{marked_in};
 ghost use Rattle.ft_log.specs.View.{key_of};
 ghost use Rattle.ft_log.specs.Without.{without};
 ghost use Rattle.ft_log.specs.declared.key.Key.{Key as MarkedKey};
@@ -13,6 +14,7 @@ ghost use Rattle.ft_log.specs.declared.story.Entry.{Entry as KeptEntry};
 
 use crate::held::Held;
 use crate::key::Key;
+use crate::name::Name;
 use std::marker::Model;
 
 /// What is kept under a key, and the last moment at which it is repeated.
@@ -37,6 +39,13 @@ impl Mark {
     /// The mark of a key.
     pub(crate) fn of(_key: &Key) -> Mark
         ensures { result.key ≡ _key.now }
+    {
+        Mark {}
+    }
+
+    /// The mark of the key that a name with a number stands for.
+    pub(crate) fn named(_name: &Name) -> Mark
+        ensures { result.key ≡ marked_in _name.now }
     {
         Mark {}
     }

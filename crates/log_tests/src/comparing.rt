@@ -143,6 +143,30 @@ fn are_alike(alloc: Global, both: &mut Both, calls: u64) -> Result<bool, LogErro
     Ok(true)
 }
 
+/// Whether both are alike over so many calls, where the moment leaps now and then, so that most of what is kept expires at
+/// once, and where a call may come at a moment before the leap.
+fn are_alike_in_leaps(alloc: Global, both: &mut Both, calls: u64) -> Result<bool, LogError> {
+    let mut number = 2;
+    let mut now: u64 = 2000;
+    for call in 0..calls {
+        number = after(number);
+        if call % 128 == 127 {
+            now = now.saturating_add(1500);
+            both.log.forget(now);
+            both.list.forget(now);
+        }
+        let moment = if number >> 52 & 3 == 0 {
+            now.saturating_sub(1400)
+        } else {
+            now
+        };
+        if !both.step(alloc, number, moment)? {
+            return Ok(false);
+        }
+    }
+    Ok(true)
+}
+
 /// Capacities and shares: ample, a full log, full shares, and none.
 static SIZES: [(u32, u32); 4] = [(64, 64), (20, 20), (40, 5), (0, 0)];
 
@@ -152,5 +176,14 @@ fn a_log_is_its_list(rt: HostRuntime) {
     for (capacity, share) in &SIZES {
         let mut both = both_of(rt.alloc(), hasher, *capacity, *share);
         assert!(rt; are_alike(rt.alloc(), &mut both, 4000).unwrap_or(false));
+    }
+}
+
+#[test]
+fn a_log_is_its_list_where_many_expire_at_once(rt: HostRuntime) {
+    let hasher = RandomState::new(&rt).expect(&rt, "random");
+    for (capacity, share) in &SIZES {
+        let mut both = both_of(rt.alloc(), hasher, *capacity, *share);
+        assert!(rt; are_alike_in_leaps(rt.alloc(), &mut both, 4000).unwrap_or(false));
     }
 }

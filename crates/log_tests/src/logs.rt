@@ -143,6 +143,97 @@ fn what_is_withdrawn_gives_its_room_back(rt: HostRuntime) {
     assert_given(&rt, hasher, (4, 1), &WITHDRAWN);
 }
 
+/// Twelve that expire at once are gone at once: their keys and their places are free. What is kept for less long than what
+/// went is there all the same.
+static LEAP: [Step; 33] = [
+    Keeps(b"A", 1, 10, 1),
+    Keeps(b"A", 2, 11, 2),
+    Keeps(b"A", 3, 12, 3),
+    Keeps(b"A", 4, 13, 4),
+    Keeps(b"A", 5, 14, 5),
+    Keeps(b"A", 6, 15, 6),
+    Keeps(b"B", 1, 16, 7),
+    Keeps(b"B", 2, 17, 8),
+    Keeps(b"B", 3, 18, 9),
+    Keeps(b"B", 4, 19, 10),
+    Keeps(b"B", 5, 20, 11),
+    Keeps(b"B", 6, 21, 12),
+    Keeps(b"C", 1, 200, 13),
+    Refuses(b"C", 2, LogError::Full),
+    Forgets(100),
+    Holds(1),
+    HoldsOf(b"A", 0),
+    HoldsOf(b"B", 0),
+    HoldsOf(b"C", 1),
+    Finds(b"B", 6, None),
+    Finds(b"C", 1, Some(13)),
+    Expires(Some(200)),
+    MakesRoom(b"B", 6),
+    Keeps(b"B", 6, 150, 14),
+    Finds(b"B", 6, Some(14)),
+    Holds(2),
+    Expires(Some(150)),
+    Keeps(b"B", 5, 50, 15),
+    Finds(b"B", 5, Some(15)),
+    HoldsOf(b"B", 2),
+    Expires(Some(50)),
+    Forgets(101),
+    Expires(Some(150)),
+];
+
+#[test]
+fn many_expire_at_once(rt: HostRuntime) {
+    let hasher = RandomState::new(&rt).expect(&rt, "random");
+    assert_given(&rt, hasher, (13, 6), &LEAP);
+}
+
+/// A client whose share expired behind twenty of others has room again, for as many as its share.
+static BEHIND: [Step; 37] = [
+    Keeps(b"A", 1, 10, 1),
+    Keeps(b"A", 2, 11, 2),
+    Keeps(b"A", 3, 12, 3),
+    Keeps(b"A", 4, 13, 4),
+    Keeps(b"B", 1, 14, 5),
+    Keeps(b"B", 2, 15, 6),
+    Keeps(b"B", 3, 16, 7),
+    Keeps(b"B", 4, 17, 8),
+    Keeps(b"C", 1, 18, 9),
+    Keeps(b"C", 2, 19, 10),
+    Keeps(b"C", 3, 20, 11),
+    Keeps(b"C", 4, 21, 12),
+    Keeps(b"D", 1, 22, 13),
+    Keeps(b"D", 2, 23, 14),
+    Keeps(b"D", 3, 24, 15),
+    Keeps(b"D", 4, 25, 16),
+    Keeps(b"E", 1, 26, 17),
+    Keeps(b"E", 2, 27, 18),
+    Keeps(b"E", 3, 28, 19),
+    Keeps(b"E", 4, 29, 20),
+    Keeps(b"F", 1, 30, 21),
+    Keeps(b"F", 2, 31, 22),
+    Keeps(b"F", 3, 32, 23),
+    Keeps(b"F", 4, 33, 24),
+    Refuses(b"F", 5, LogError::ShareFull),
+    Forgets(100),
+    Holds(0),
+    HoldsOf(b"F", 0),
+    Keeps(b"F", 5, 150, 25),
+    HoldsOf(b"F", 1),
+    Keeps(b"F", 4, 151, 26),
+    Keeps(b"F", 1, 152, 27),
+    Keeps(b"F", 6, 153, 28),
+    Refuses(b"F", 7, LogError::ShareFull),
+    Finds(b"F", 4, Some(26)),
+    Expires(Some(150)),
+    Holds(4),
+];
+
+#[test]
+fn a_share_that_expired_is_free(rt: HostRuntime) {
+    let hasher = RandomState::new(&rt).expect(&rt, "random");
+    assert_given(&rt, hasher, (26, 4), &BEHIND);
+}
+
 /// Whether a log prints so.
 fn is_shown(alloc: Global, log: &Log, wanted: &str) -> Result<bool, AllocError> {
     let text = format!(in alloc; "{log:?}")?;

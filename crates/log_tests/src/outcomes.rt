@@ -17,6 +17,7 @@ fn are_copied(alloc: Global) -> Result<bool, AllocError> {
     let id = Vec::from_slice(alloc, b"IDL:Refused:1.0")?;
     let outcomes = [
         Outcome::Returned(vec![in alloc; Val::Long(-7), Val::Boolean(true)]?),
+        Outcome::One(Val::Str(Vec::from_slice(alloc, b"one")?)),
         Outcome::Raised(id, vec![in alloc; Val::Str(text)]?),
         Outcome::System(SystemName::ImpLimit, 3, Completion::Maybe),
     ];

@@ -21,7 +21,7 @@ returns-then-eq-clause-kept c = λ other.
     let z : ℤ = c.args.key.retention_id in
     let fits : SFits w32 z = search rules in
     let k : Kept = c.in-Some.kept.now in
-    let w : Kept = record { slot = k.slot; outcome = c.args.outcome } in
+    let w : Kept = record { slot = k.slot; until = k.until; outcome = c.args.outcome } in
     let m : Outcomes = c.args.outcomes.now in
     let n : Outcomes = c.get_mut.follows.lender w in
     let key : ℤ → RequestKey = λ r. record { client_id = c.args.key.client_id.items; retention_id = r } in
@@ -56,12 +56,12 @@ returns-in-Some-clause-kept c = λ other.
 pub returns-then-eq-clause-is : goal.returns-then-eq-clause-is
 returns-then-eq-clause-is c =
     let k : Kept = c.in-Some.kept.now in
-    let w : Kept = record { slot = k.slot; outcome = c.args.outcome } in
+    let w : Kept = record { slot = k.slot; until = k.until; outcome = c.args.outcome } in
     let found = sym c.get_mut.ensures.value ∙ ap (λ o. option_copied_mut o) c.in-Some.is in
-    ap (λ es. map slot_of es) (c.get_mut.follows.holds w).0 ∙ refilled-set _ c.args.outcomes.now.entries k w found refl
+    ap (λ es. map slot_of es) (c.get_mut.follows.holds w).0 ∙ refilled-set _ c.args.outcomes.now.entries k w found refl refl
 
 pub returns-in-Some-clause-is : goal.returns-in-Some-clause-is
 returns-in-Some-clause-is c =
     let k : Kept = c.in-Some.kept.now in
     let found = sym c.get_mut.ensures.value ∙ ap (λ o. option_copied_mut o) c.in-Some.is in
-    ap (λ es. map slot_of es) (c.get_mut.follows.holds k).0 ∙ refilled-set _ c.args.outcomes.now.entries k k found refl
+    ap (λ es. map slot_of es) (c.get_mut.follows.holds k).0 ∙ refilled-set _ c.args.outcomes.now.entries k k found refl refl

@@ -1,23 +1,14 @@
-use Rattle.std.proofs.Common.{◌≡◌, List, Bool, true, false, ℕ, ℤ, Option, Some, None, option_map, sym, ap, ◌∙◌, subst, rules, arith}
-use Rattle.std.proofs.lemmas.Int.{to_z-of_z}
+use Rattle.std.proofs.Common.{◌≡◌, Bool, true, false, ℕ, ℤ, Option, Some, None, option_map, ap, ◌∙◌, rules, arith}
 use Rattle.std.proofs.lemmas.Grind.{common_steps}
 use Rattle.std.specs.Option.{option_map_or}
 use mir.Syntax.{w32}
-use mir.Val.{SFits, of_z, to_z}
-use Rattle.indexmap.specs.IndexMap.{get_by}
+use mir.Val.{SFits}
 use Rattle.ft_log.specs.Kept.{is_parked}
-use Rattle.ft_log.specs.Maps.{Outcomes, under}
-use Rattle.ft_log.specs.Names.{is_named}
 use Rattle.ft_log.specs.View.{holding_in}
 use Rattle.ft_log.specs.declared.shelf.Kept.{Kept}
+use Rattle.ft_log.proofs.Looked.{at_is}
 use Rattle.ft_log.proofs.Queued.{if_none}
 use Rattle.ft_log.proofs.shelf.Shelf.parked_at.Goals as goal
-
--- what the look-up says of the key
-at_is : (m : Outcomes) (client l : List ℕ) (z : ℤ) → SFits w32 z → (o : Option Kept) → l ≡ client → o ≡ get_by (is_named l (Some (to_z w32 (of_z w32 z)))) m → under m (record { client_id = client; retention_id = z }) ≡ o
-at_is m client l z fits o same h =
-    subst (λ (r : ℤ). under m (record { client_id = client; retention_id = r }) ≡ o) (to_z-of_z w32 z fits)
-    (ap (λ (l : List ℕ). get_by (is_named l (Some (to_z w32 (of_z w32 z)))) m) (sym same) ∙ sym h)
 
 -- whether the call of this number is parked there
 abbrev parked : ℕ → Option Kept → Bool

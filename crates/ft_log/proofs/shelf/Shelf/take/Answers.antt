@@ -1,13 +1,14 @@
-use Rattle.std.proofs.Common.{◌≡◌, Bool, List, ℕ, ℤ, Option, unwrap_or, None, Some, is_some, refl, sym, ap, ◌∙◌, subst, arith}
+use Rattle.std.proofs.Common.{◌≡◌, Bool, List, ℕ, ℤ, Option, unwrap_or, None, Some, is_some, slice_get, refl, sym, ap, ◌∙◌, subst, arith}
 use mir.Syntax.{w32}
 use mir.Val.{to_z}
 use Rattle.std.specs.List.{sum_by}
 use Rattle.std.specs.Map.{KeepsOthers}
+use Rattle.std.specs.Option.{option_map_or}
 use Rattle.std.proofs.lemmas.List.Sums.{sum_by-swap_remove}
 use Rattle.std.proofs.lemmas.Option.{same_Some, slice_get_within, get_or_from_slice_get}
 use Rattle.ft_log.specs.Keys.{RequestKey}
 use Rattle.indexmap.specs.IndexMap.{get_by}
-use Rattle.ft_log.specs.Maps.{Outcomes, key_in}
+use Rattle.ft_log.specs.Maps.{Outcomes, due_at, key_in}
 use Rattle.ft_log.specs.Names.{is_named}
 use Rattle.ft_log.specs.View.{key_of}
 use Rattle.ft_log.specs.declared.name.Name.{Name}
@@ -58,11 +59,12 @@ returns-clause-sums c = λ f.
     let place : ℕ = c.args.place in
     let here = w.at in
     let got : Name × Kept = c.unwrap-name.result in
-    let g : Name × Kept → ℕ = λ p. f (key_in p.0) in
+    let g : Name × Kept → ℕ = λ p. f (due_at p) in
     let all = sum_by-swap_remove g old place got (slice_get_within old place _ here) in
     let is = ap (sum_by g) (rw c.unwrap-name.ensures at c.swap_remove_index.ensures.entries) in
     let of_key : key_in w.name ≡ key = λ i. record { client_id = w.of_client i; retention_id = unwrap_or (w.of_number i) (to_z w32 0) } in
-    let same = ap g (get_or_from_slice_get old place (w.name, w.kept) got here) ∙ ap f of_key in
+    let until : w.kept.until ≡ option_map_or (λ (p : Name × Kept). p.1.until) (slice_get old place) 0 = sym (ap (λ o. option_map_or (λ (p : Name × Kept). p.1.until) o 0) here) in
+    let same = ap g (get_or_from_slice_get old place (w.name, w.kept) got here) ∙ (λ i. f (until i, of_key i)) in
     omega (arith, all, is, same)
 
 pub returns-clause-taken : goal.returns-clause-taken

@@ -7,7 +7,7 @@ use Rattle.ft_log.specs.Filled.{filled_by}
 use Rattle.ft_log.specs.Keys.{RequestKey, are_distinct, clients_in, held_of, same_key}
 use Rattle.ft_log.specs.Kept.{KeptOutcome}
 use Rattle.ft_log.specs.Logged.{logged}
-use Rattle.ft_log.specs.Maps.{held_at, is_countable, key_in}
+use Rattle.ft_log.specs.Maps.{due_at, held_at, is_countable}
 use Rattle.ft_log.specs.Holding.{Holding}
 use Rattle.ft_log.specs.Shelf.{at_key}
 use Rattle.ft_log.specs.Tied.{due_of, is_free, is_ready, outcome_for}
@@ -40,7 +40,7 @@ invariant_of-self c =
       found = subst (λ (l : List Entry). (key : RequestKey) → option_map (λ x. x.outcome) (at_key n key) ≡ outcome_for key l) is (λ key.
           ap (option_map (λ x. x.outcome)) (c.fill.ensures.kept key) ∙ map-kept c.args.number (Known c.args.outcome) (same_key key (key_of c.args.key)) (at_key s.kept key)
           ∙ ap (λ (o : Option Held). cond (same_key key (key_of c.args.key)) (option_map (put_outcome c.args.number (Known c.args.outcome)) o) o) (s.found key) ∙ sym (outcome-filled by key es));
-      listed = keys (λ ks. (f : RequestKey → ℕ) → sum_by (λ p. f (key_in p.0)) n.outcomes.entries ≡ sum_by f ks) (λ f. c.fill.ensures.sums f ∙ s.listed f);
+      listed = subst (λ (l : List Entry). (f : ℕ × RequestKey → ℕ) → sum_by (λ p. f (due_at p)) n.outcomes.entries ≡ sum_by (λ e. f (due_of e)) l) is (λ f. c.fill.ensures.sums f ∙ s.listed f ∙ sym (dues-filled f by es));
       counted = keys (λ ks. b ≡ true → (client : List ℕ) → held_at s.counts client ≡ held_of client ks) s.counted;
       slim = keys (λ ks. index_map_len s.counts ≤ cond b (clients_in ks) 0) s.slim;
       dated = subst (λ (l : List Entry). (f : ℕ × RequestKey → ℕ) → sum_by (λ d. f (d.until.0, key_of d.key.key)) (dues s.order) ≡ sum_by (λ e. f (due_of e)) l) is (λ f. s.dated f ∙ sym (dues-filled f by es));

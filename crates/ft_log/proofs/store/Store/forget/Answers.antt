@@ -1,4 +1,4 @@
-use Rattle.std.proofs.Common.{rules}
+use Rattle.std.proofs.Common.{◌≡◌, ℕ, cond, ap, arith, rules}
 use Rattle.ft_log.specs.Logged.{logged}
 use Rattle.ft_log.proofs.store.Store.forget.Goals as goal
 
@@ -8,7 +8,9 @@ loop-init c = search rules
 
 pub loop-smaller : goal.loop-smaller
 unfolding logged
-loop-smaller c = search rules
+loop-smaller c =
+    let yes : ◌≡◌ {A = ℕ} (cond c.forget_next.result 1 0) 1 = ap (λ b. cond b 1 0) c.loop-test.true in
+    omega (arith, yes, c.forget_next.ensures.one)
 
 pub loop-preserved : goal.loop-preserved
 unfolding logged

@@ -6,7 +6,7 @@ use Rattle.indexmap.specs.IndexMap.{index_map_len}
 use Rattle.ft_log.specs.Dues.{dues, places, under}
 use Rattle.ft_log.specs.Keys.{RequestKey, are_distinct, clients_in, held_of, same_key}
 use Rattle.ft_log.specs.Logged.{logged}
-use Rattle.ft_log.specs.Maps.{Counts, held_at, is_countable, key_in}
+use Rattle.ft_log.specs.Maps.{Counts, due_at, held_at, is_countable}
 use Rattle.ft_log.specs.Placed.{ArePlaced}
 use Rattle.ft_log.specs.Places.{IsChanged}
 use Rattle.ft_log.specs.Shelf.{at_key, has_room}
@@ -101,10 +101,10 @@ invariant_of-self-2 c =
       distinct = subst (λ (l : List Entry). are_distinct (keys_at l) ≡ true) is (subst (λ (ks : List RequestKey). are_distinct ks ≡ true) pushed (are_distinct-push keys key s.distinct p.new));
       shared = subst (λ (l : List Entry). (client : List ℕ) → held_of client (keys_at l) ≤ s.share) is
           (subst (λ (ks : List RequestKey). (client : List ℕ) → held_of client ks ≤ s.share) pushed (within_share-push keys key s.share s.shared p.shared));
-      found = subst (AreOutcomes n) is (λ k. ap (option_map (λ x. x.outcome)) (c.put.ensures.kept k) ∙ outcome_put (same_key k key) (record { slot = c.push-slot.result; outcome = c.args.outcome }) (at_key s.kept k)
+      found = subst (AreOutcomes n) is (λ k. ap (option_map (λ x. x.outcome)) (c.put.ensures.kept k) ∙ outcome_put (same_key k key) (record { slot = c.push-slot.result; until = c.args.expiration; outcome = c.args.outcome }) (at_key s.kept k)
           ∙ ap (cond (same_key k key) (Some c.args.outcome)) (s.found k) ∙ sym (outcome_for-push k es e p.new));
-      listed = subst (λ (l : List Entry). (f : RequestKey → ℕ) → sum_by (λ q. f (key_in q.0)) n.outcomes.entries ≡ sum_by f (keys_at l)) is
-          (λ f. c.put.ensures.sums f ∙ ap (λ x. x + f key) (s.listed f) ∙ sym (ap (sum_by f) (keys-push es e) ∙ sum_by_push f keys key));
+      listed = subst (λ (l : List Entry). (f : ℕ × RequestKey → ℕ) → sum_by (λ q. f (due_at q)) n.outcomes.entries ≡ sum_by (λ x. f (due_of x)) l) is
+          (λ f. c.put.ensures.sums f ∙ ap (λ x. x + f (due_of e)) (s.listed f) ∙ sym (sum_by_push (λ x. f (due_of x)) es e));
       counted = subst (λ (l : List Entry). b ≡ true → (client : List ℕ) → held_at counts client ≡ held_of client (keys_at l)) is (λ t client.
           let more = ap (λ bytes. held_at s.counts client + cond (bytes_eq bytes client) 1 0) (copied_is inside t) in
           let all = ap (held_of client) (keys-push es e) ∙ sum_by_push (λ (k : RequestKey). cond (bytes_eq k.client_id client) 1 0) keys key in
@@ -117,15 +117,15 @@ invariant_of-self-2 c =
           let same : f (c.args.expiration, key_of c.in-Some.room.key.key) ≡ f (due_of e) = λ i. f (c.args.expiration, of_key inside i) in
           omega (arith, c.push-slot.ensures.sums (λ d. f (d.until.0, key_of d.key.key)), s.dated f, same, sum_by_push (λ x. f (due_of x)) es e));
       slotted =
-          let none = slotted-change s.kept n key (dues s.order) (λ other differ. c.put.ensures.kept other ∙ (λ i. cond (differ i) (Some (record { slot = c.push-slot.result; outcome = c.args.outcome })) (at_key s.kept other)))
+          let none = slotted-change s.kept n key (dues s.order) (λ other differ. c.put.ensures.kept other ∙ (λ i. cond (differ i) (Some (record { slot = c.push-slot.result; until = c.args.expiration; outcome = c.args.outcome })) (at_key s.kept other)))
           s.slotted (none_due key s.order es s.dated (none_new key es p.new)) in
-          let new : not (is_slotted n due) ≡ false = slot_here n (at_key s.kept key) due key (record { slot = c.push-slot.result; outcome = c.args.outcome }) (of_key inside) refl (c.put.ensures.kept key) in
+          let new : not (is_slotted n due) ≡ false = slot_here n (at_key s.kept key) due key (record { slot = c.push-slot.result; until = c.args.expiration; outcome = c.args.outcome }) (of_key inside) refl (c.put.ensures.kept key) in
           let zero : ◌≡◌ {A = ℕ} (cond (not (is_slotted n due)) 1 0) 0 = ap (λ x. cond x 1 0) new in
           omega (arith, c.push-slot.ensures.sums (λ d. cond (not (is_slotted n d)) 1 0), none, zero);
       placed =
           let last = c.put.ensures.last in
           subst (λ (l : List (Name × Kept)). ArePlaced l (under c.push-slot.new.self)) (sym last.is)
-          (placed-push s.kept.outcomes.entries (last.name, record { slot = c.push-slot.result; outcome = c.args.outcome }) (under s.order) (under c.push-slot.new.self) s.placed c.push-slot.ensures.was
+          (placed-push s.kept.outcomes.entries (last.name, record { slot = c.push-slot.result; until = c.args.expiration; outcome = c.args.outcome }) (under s.order) (under c.push-slot.new.self) s.placed c.push-slot.ensures.was
           (subst (λ n. IsChanged (under s.order) (under c.push-slot.new.self) c.push-slot.result (Some n)) c.len.ensures c.push-slot.ensures.places));
       copied = subst (λ r. b ≡ true → is_copied r ≡ true) (sym c.take.ensures.after) (λ t. refl);
       ready = subst (λ r. is_ready (option_map (λ r. key_of r.key.key) r) (keys_at c.with-self.result.entries) s.capacity s.share (places c.push-slot.new.self) (is_free b n counts) ≡ true) (sym c.take.ensures.after) refl;

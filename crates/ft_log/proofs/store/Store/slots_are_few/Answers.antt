@@ -15,19 +15,19 @@ pub returns-clause-each : goal.returns-clause-each
 unfolding logged slots_of
 returns-clause-each c =
     let s = c.args.self.now in
-    omega (arith, s.slim, s.listed (λ _. 1), length_sum s.kept.outcomes.entries, length_sum (keys_at s.story.entries), length_keys s.story.entries, length-map s.story.entries entry_in, counted_few (nat_lt s.share s.capacity) (clients_in (keys_at s.story.entries)))
+    omega (arith, s.slim, s.listed (λ _. 1), length_sum s.kept.outcomes.entries, length_sum s.story.entries, length_keys s.story.entries, length-map s.story.entries entry_in, counted_few (nat_lt s.share s.capacity) (clients_in (keys_at s.story.entries)))
 
 pub returns-clause-twice : goal.returns-clause-twice
 unfolding logged slots_of
 returns-clause-twice c =
     let s = c.args.self.now in
-    omega (arith, s.slim, s.listed (λ _. 1), length_sum s.kept.outcomes.entries, length_sum (keys_at s.story.entries), length_keys s.story.entries, length-map s.story.entries entry_in, clients_few (keys_at s.story.entries), counted_few (nat_lt s.share s.capacity) (clients_in (keys_at s.story.entries)))
+    omega (arith, s.slim, s.listed (λ _. 1), length_sum s.kept.outcomes.entries, length_sum s.story.entries, length_keys s.story.entries, length-map s.story.entries entry_in, clients_few (keys_at s.story.entries), counted_few (nat_lt s.share s.capacity) (clients_in (keys_at s.story.entries)))
 
 pub returns-clause-bound : goal.returns-clause-bound
 unfolding logged slots_of
 returns-clause-bound c =
     let s = c.args.self.now in
-    omega (arith, s.slim, s.listed (λ _. 1), length_sum s.kept.outcomes.entries, length_sum (keys_at s.story.entries), length_keys s.story.entries, s.within, clients_few (keys_at s.story.entries), counted_few (nat_lt s.share s.capacity) (clients_in (keys_at s.story.entries)))
+    omega (arith, s.slim, s.listed (λ _. 1), length_sum s.kept.outcomes.entries, length_sum s.story.entries, length_keys s.story.entries, s.within, clients_few (keys_at s.story.entries), counted_few (nat_lt s.share s.capacity) (clients_in (keys_at s.story.entries)))
 
 pub returns-clause-dues : goal.returns-clause-dues
 unfolding logged dues_of

@@ -7,10 +7,10 @@ use Rattle.indexmap.specs.IndexMap.{index_map_len}
 use Rattle.ft_log.specs.Dues.{dues, places, under}
 use Rattle.ft_log.specs.Keys.{RequestKey, are_distinct, clients_in, held_of, same_key}
 use Rattle.ft_log.specs.Logged.{logged}
-use Rattle.ft_log.specs.Maps.{Counts, held_at, key_in}
+use Rattle.ft_log.specs.Maps.{Counts, due_at, held_at}
 use Rattle.ft_log.specs.Places.{IsMoved}
-use Rattle.ft_log.specs.Shelf.{at_key}
-use Rattle.ft_log.specs.Tied.{AreDues, AreOutcomes, is_free, is_ready, is_slotted}
+use Rattle.ft_log.specs.Shelf.{at_key, until_in}
+use Rattle.ft_log.specs.Tied.{AreDues, AreOutcomes, due_of, is_free, is_ready, is_slotted}
 use Rattle.ft_log.specs.View.{key_of}
 use Rattle.ft_log.specs.Without.{without}
 use Rattle.ft_log.specs.declared.story.Entry.{Entry}
@@ -22,7 +22,8 @@ use Rattle.ft_log.proofs.Moved.{dated_in}
 use Rattle.ft_log.proofs.Placing.{at_place, moved_has, placed-take}
 use Rattle.ft_log.proofs.Ready.{ready-without}
 use Rattle.ft_log.proofs.Slots.{slim-without}
-use Rattle.ft_log.proofs.Slotted.{countable_stays, due_there, entry_there, free_from, free_parts, kept_where, keys_sum, none_due, none_left, outcome_taken, slotted-change}
+use Rattle.ft_log.proofs.Slotted.{countable_stays, due_there, entry_there, free_from, free_parts, kept_where, none_due, none_left, outcome_taken, slotted-change}
+use Rattle.ft_log.proofs.Timed.{same_until}
 use Rattle.ft_log.proofs.store.Store.take_out.Goals as goal
 use Rattle.ft_log.proofs.store.Store.take_out.Goals.{After-withdraw}
 
@@ -92,6 +93,7 @@ invariant_of-self c =
     let here : ◌≡◌ {A = ℕ} (cond (bytes_eq key.client_id key.client_id) 1 0) 1 = ap (λ b. cond b 1 0) ((bytes_eq-Decides key.client_id key.client_id).1 refl) in
     let had : b ≡ true → held_at s.counts c.as_slice.result.now ≡ held_of key.client_id (keys_at es) = λ t. ap (held_at s.counts) client_is ∙ s.counted t key.client_id in
     let shorter : length (keys_at (without key es)) + 1 ≡ length (keys_at es) = simp length-map (omega (arith, fewer)) in
+    let until : until_in c.args.spot.place s.kept ≡ x = same_until (until_in c.args.spot.place s.kept) x key es s.kept.outcomes.entries n.outcomes.entries l c.take-client_id.ensures.sums s.listed in
     let own : IsLeft x (key_of out.due.key.key) es = subst (λ (k : RequestKey). IsLeft x k es) (sym out.of_key) l in
     let dated : AreDues o (without key es) = subst (λ (k : RequestKey). AreDues o (without k es)) out.of_key (dues_left s.order es s.dated o out.due out.sums own) in
     let before : count_by (λ d. not (is_slotted s.kept d)) (dues o) ≡ 0 = omega (arith, out.sums (λ d. cond (not (is_slotted s.kept d)) 1 0), s.slotted) in
@@ -104,9 +106,10 @@ invariant_of-self c =
       shared = subst (λ (l : List Entry). (client : List ℕ) → held_of client (keys_at l) ≤ s.share) is (λ client. omega (arith, held client, s.shared client));
       found = subst (AreOutcomes n) is (λ k. ap (option_map (λ x. x.outcome)) (c.take-client_id.ensures.kept k) ∙ outcome_taken (same_key k key) (at_key s.kept k)
           ∙ ap (cond (same_key k key) None) (s.found k) ∙ sym (outcome_for-without key k es));
-      listed = subst (λ (l : List Entry). (f : RequestKey → ℕ) → sum_by (λ q. f (key_in q.0)) n.outcomes.entries ≡ sum_by f (keys_at l)) is (λ f.
-          let entry : f (key_of l.entry.key) ≡ f key = ap f l.of_key in
-          omega (arith, c.take-client_id.ensures.sums f, s.listed f, entry, l.sums (λ (e : Entry). f (key_of e.key)), keys_sum f es, keys_sum f (without key es)));
+      listed = subst (λ (l : List Entry). (f : ℕ × RequestKey → ℕ) → sum_by (λ q. f (due_at q)) n.outcomes.entries ≡ sum_by (λ e. f (due_of e)) l) is (λ f.
+          let entry : f (due_of l.entry) ≡ f (x, key) = λ i. f (l.until i, l.of_key i) in
+          let same : f (until_in c.args.spot.place s.kept, key) ≡ f (x, key) = λ i. f (until i, key) in
+          omega (arith, c.take-client_id.ensures.sums f, s.listed f, entry, same, l.sums (λ (e : Entry). f (due_of e))));
       counted = subst (λ (l : List Entry). b ≡ true → (client : List ℕ) → held_at counts client ≡ held_of client (keys_at l)) is (λ t client.
           let less = ap (λ bytes. held_at counts client + cond (bytes_eq bytes client) 1 0) (sym client_is) ∙ c.count_down_if.ensures.held (c.counts_clients-counts.ensures ∙ t) client in
           omega (arith, less, s.counted t client, held_left x key es l client));
