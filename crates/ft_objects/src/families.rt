@@ -24,8 +24,10 @@ pub struct Families {
 }
 
 impl Families {
-    ghost use Rattle.ft_objects.specs.Families.{families_ids};
-    ghost use Rattle.ft_objects.specs.Filling.{names_id};
+    ghost use Rattle.std.specs.Option.{option_map_or};
+    ghost use Rattle.ft_objects.specs.Families.{families_ids, family};
+    ghost use Rattle.ft_objects.specs.Filling.{names_id, offer_of};
+    ghost use Rattle.ft_objects.specs.Interfaces.{interface_of, no_object};
 
     /// Whether the object that the key leads to, its own or its family, names the repository id (`Interfaces::is_a`).
     pub fn is_a(&self, key: &[u8], id: &[u8]) -> bool
@@ -39,6 +41,16 @@ impl Families {
             None => false,
         }
     }
+
+    /// The types of an operation of the family that the key begins with, if there is one.
+    fn of_family(&self, key: &[u8], operation: &[u8]) -> Lookup<'_>
+        ensures { interface_of result ≡ option_map_or (offer_of self.now.families).interface (family (offer_of self.now.families).knows key.now) (λ name. no_object) operation.now }
+    {
+        match self.families.family_of(key) {
+            Some(prefix) => self.families.interface(prefix, operation),
+            None => Lookup::NoObject,
+        }
+    }
 }
 
 impl Catalogue for Families {
@@ -50,12 +62,9 @@ impl Catalogue for Families {
     ghost promises = { families_offer-is };
 
     fn interface(&self, object_key: &[u8], operation: &[u8]) -> Lookup<'_> {
-        if self.objects.has_object(object_key) {
-            return self.objects.interface(object_key, operation);
-        }
-        match self.families.family_of(object_key) {
-            Some(prefix) => self.families.interface(prefix, operation),
-            None => Lookup::NoObject,
+        match self.objects.interface(object_key, operation) {
+            Lookup::NoObject => self.of_family(object_key, operation),
+            found => found,
         }
     }
 
