@@ -62,10 +62,10 @@ fn get_signature(alloc: Global) -> Result<Signature, AllocError>
 }
 
 /// The outcome that returns a total.
-fn telling(alloc: Global, total: i64) -> Result<Outcome, AllocError>
-    ensures { IfOk result (λ outcome. performed_in outcome ≡ tells total) }
+fn telling(total: i64) -> Outcome
+    ensures { performed_in result ≡ tells total }
 {
-    Ok(Outcome::Returned(vec![in alloc; Val::LongLong(total)]?))
+    Outcome::One(Val::LongLong(total))
 }
 
 impl Counter {
@@ -97,9 +97,8 @@ impl Counter {
             let id = Vec::from_slice(alloc, OVERFLOW)?;
             return Ok(Outcome::Raised(id, Vec::new(alloc)));
         };
-        let outcome = telling(alloc, sum)?;
         *total = sum;
-        Ok(outcome)
+        Ok(telling(sum))
     }
 }
 
@@ -140,7 +139,7 @@ impl Servant for Counter {
         arguments: &[Val],
     ) -> Result<Outcome, AllocError> {
         if operation == b"get".as_slice() {
-            return telling(alloc, self.total);
+            return Ok(telling(self.total));
         }
         match long_at(arguments, 0) {
             Some(n) => self.add(alloc, n),
