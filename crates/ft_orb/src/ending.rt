@@ -1,8 +1,11 @@
 //! Why nothing more is heard of a connection.
 
-ghost use Rattle.std.specs.Prelude.{◌≡◌, if◌then◌else◌, Some};
+ghost use Rattle.std.specs.Prelude.{◌≡◌, ◌==◌, ℕ, if◌then◌else◌, false, None, Some};
+ghost use Rattle.std.specs.BTreeMap.{get};
+ghost use Rattle.std.specs.Ordering.{nat_cmp};
 
-use giop_link::LinkFault;
+use giop_link::{LinkFault, ServerLink};
+use std::collections::BTreeMap;
 
 /// Why nothing more is heard of a connection, other than that its owner lost it.
 #[derive(Clone, Copy, Debug, PartialEq, Eq)]
@@ -54,4 +57,21 @@ impl Ended {
         let why = Ending::Closed;
         Some(Ended { connection, why })
     }
+}
+
+/// Forgets a connection, which is the one that ended last. A function of its own, since what is taken out is large: those that
+/// seldom come here have no room for it.
+#[inline(never)]
+pub(crate) fn end_link(
+    links: &mut BTreeMap<u64, ServerLink>,
+    last: &mut Option<Ended>,
+    connection: u64,
+    why: Ending,
+)
+    ensures gone { get nat_cmp links.new connection ≡ None }
+    ensures others { (q : ℕ) → (connection == q) ≡ false → get nat_cmp links.new q ≡ get nat_cmp links.old q }
+    ensures last { last.new ≡ Some (record { connection = connection; why = why }) }
+{
+    links.remove(&connection);
+    *last = Some(Ended { connection, why });
 }

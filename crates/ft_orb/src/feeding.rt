@@ -6,7 +6,7 @@ ghost use Rattle.ft_orb.specs.Owners.{Owner};
 ghost use Rattle.ft_orb.specs.Requests.{Call};
 
 use crate::asked::next_number;
-use crate::ending::{Ended, Ending};
+use crate::ending::{Ending, end_link};
 use crate::engine::{Engine, Fed, Taken};
 use crate::error::ServeError;
 use crate::pausing::{Ask, Pause, Place, serve_until_ask};
@@ -148,12 +148,12 @@ impl<C: Catalogue + Drop> Engine<C> {
             Ok(Pause::Due(place)) => Ok(Taken::Due(place.taken)),
             Ok(Pause::Asks(place)) => {
                 let Some(number) = next_number(&mut self.asks) else {
-                    let lost = connection;
-                    self.links.remove(&lost);
-                    self.keeper.ended = Some(Ended {
+                    end_link(
+                        &mut self.links,
+                        &mut self.keeper.ended,
                         connection,
-                        why: Ending::Memory,
-                    });
+                        Ending::Memory,
+                    );
                     return Err(ServeError::Memory {
                         handled: place.handled,
                         answered: place.handled,
@@ -178,11 +178,12 @@ impl<C: Catalogue + Drop> Engine<C> {
                 match counted(place.handled, step) {
                     Ok(_) => Ok(Taken::Fed(Fed::Repeats(place.taken))),
                     Err(cut) => {
-                        self.links.remove(&connection);
-                        self.keeper.ended = Some(Ended {
+                        end_link(
+                            &mut self.links,
+                            &mut self.keeper.ended,
                             connection,
-                            why: Ending::Memory,
-                        });
+                            Ending::Memory,
+                        );
                         Err(ServeError::Memory {
                             handled: cut.handled,
                             answered: cut.answered,
@@ -191,11 +192,12 @@ impl<C: Catalogue + Drop> Engine<C> {
                 }
             }
             Err(cut) => {
-                self.links.remove(&connection);
-                self.keeper.ended = Some(Ended {
+                end_link(
+                    &mut self.links,
+                    &mut self.keeper.ended,
                     connection,
-                    why: Ending::Memory,
-                });
+                    Ending::Memory,
+                );
                 Err(ServeError::Memory {
                     handled: cut.handled,
                     answered: cut.answered,

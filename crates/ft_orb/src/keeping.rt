@@ -12,9 +12,13 @@ ghost use Rattle.ft_orb.specs.Private.{IsPut};
 ghost use Rattle.ft_orb.specs.Tellings.{reply_by};
 ghost use Rattle.ft_orb.specs.Waits.{IsReady, filled_with, kept_with, without_parked};
 
+use crate::arguments::let_go;
 use crate::desk::{Step, forget_expired};
 use crate::keeper::{Keeper, Retained};
 use ft_log::Outcome;
+
+/// The memory of how many outcomes that expired is given back at a moment, beside what is at each message.
+const BY_MOMENT: u32 = 512;
 
 impl Keeper {
     /// Keeps an outcome, if it is to be kept.
@@ -95,11 +99,11 @@ impl Keeper {
     {
         let step = self.slot.asker.answer(outcome, out);
         self.slot.retained = None;
-        self.slot.arguments.clear();
+        let_go(&mut self.slot.arguments);
         step
     }
 
-    /// A moment has come: what expired before it is forgotten.
+    /// A moment has come: what expired before it is forgotten, and the memory of more of it given back than at a message.
     pub(crate) fn tick(&mut self, moment: u64)
         ensures clock { self.new.clock ≡ max self.old.clock moment }
         ensures log { logged self.new.log ≡ record (logged self.old.log) { entries = unexpired self.new.clock (logged self.old.log).entries } }
@@ -109,6 +113,7 @@ impl Keeper {
     {
         self.clock = self.clock.max(moment);
         forget_expired(&mut self.log, self.clock);
+        self.log.give_back(BY_MOMENT);
     }
 
     /// Keeps the outcome of the request in the slot, if it has a key, and answers with it and with these service contexts,
@@ -134,7 +139,7 @@ impl Keeper {
         let step = self.slot.asker.answer_with(&outcome, contexts, out);
         let retained = self.slot.retained.take();
         self.keep(retained, outcome);
-        self.slot.arguments.clear();
+        let_go(&mut self.slot.arguments);
         step
     }
 }

@@ -15,6 +15,7 @@ ghost use Rattle.ft_objects.specs.Replies.{IsRenderable, body_limit, body_of, or
 use cdr_core::{Ty, Val, are_writable, end_of_list, fits, has_no_nul};
 use ft_log::{Completion, Outcome, SystemName};
 use ft_objects::{Catalogue, Lookup};
+use std::slice;
 
 /// The place where the body of a Reply begins (GIOP 9.4.1, GIOP 9.4.3).
 pub(crate) const BODY: u64 = 24;
@@ -30,6 +31,13 @@ fn ends_in_time(place: u64, values: &[Val]) -> bool
         Some(end) => end <= BODY + MOST,
         None => false,
     }
+}
+
+/// Whether the body that results are can be sent.
+fn can_return(results: &[Val]) -> bool
+    ensures { IsTrue result ↔ (AreWritable (values_of results.now) × (length (octets_of_all Big (values_of results.now) 24) ≤ body_limit)) }
+{
+    are_writable(results) && ends_in_time(BODY, results)
 }
 
 /// Whether the body of an exception can be sent: its repository id, and then its members.
@@ -57,7 +65,8 @@ pub(crate) fn is_renderable(outcome: &Outcome) -> bool
 {
     giop_core::laws::octets_bodies();
     match outcome {
-        Outcome::Returned(results) => are_writable(results) && ends_in_time(BODY, results),
+        Outcome::Returned(results) => can_return(results),
+        Outcome::One(result) => can_return(slice::from_ref(result)),
         Outcome::Raised(id, members) => can_raise(id, members),
         Outcome::System(name, minor, completion) => can_refuse(*name, *minor, *completion),
         Outcome::Raw(_, _, body) => body.len() as u64 <= MOST,
@@ -92,6 +101,7 @@ pub fn outcome_len(outcome: &Outcome) -> Option<u64>
     }
     match outcome {
         Outcome::Returned(results) => Some(end_of_list(BODY, results)? - BODY),
+        Outcome::One(result) => Some(end_of_list(BODY, slice::from_ref(result))? - BODY),
         Outcome::Raised(id, members) => raised_len(id, members),
         Outcome::System(name, minor, completion) => refused_len(*name, *minor, *completion),
         Outcome::Raw(_, _, body) => Some(body.len() as u64),
@@ -138,6 +148,9 @@ pub(crate) fn is_answer_of(lookup: Lookup<'_>, outcome: &Outcome) -> bool
         (_, Outcome::System(..)) => true,
         (_, Outcome::Raw(..)) => true,
         (Lookup::Operation(types), Outcome::Returned(results)) => are_of(&types.results, results),
+        (Lookup::Operation(types), Outcome::One(result)) => {
+            are_of(&types.results, slice::from_ref(result))
+        }
         (Lookup::Operation(types), Outcome::Raised(id, members)) => {
             has_no_nul(id) && is_raised(&types.raises, id, members)
         }
@@ -160,7 +173,7 @@ pub(crate) fn may_answer<C: Catalogue>(
     }
     match outcome {
         Outcome::System(..) | Outcome::Raw(..) => true,
-        Outcome::Returned(_) | Outcome::Raised(..) => {
+        Outcome::Returned(_) | Outcome::One(_) | Outcome::Raised(..) => {
             is_answer_of(catalogue.interface(key, operation), outcome)
         }
     }

@@ -18,11 +18,12 @@ ghost use Rattle.ft_orb.specs.declared.parked.Waiter.{Waiter as Waiting};
 ghost use Rattle.ft_orb.specs.declared.error.ParkError.TheVariants.{Full, Share};
 ghost use Rattle.ft_orb.specs.declared.events.Note.TheVariants.{Done};
 
+use crate::arguments::let_go;
 use crate::asked::{Asked, lent};
 use crate::carrying::can_carry;
 use crate::counts::count;
 use crate::desk::Step;
-use crate::ending::{Ended, Ending};
+use crate::ending::{Ending, end_link};
 use crate::engine::Engine;
 use crate::error::{ParkError, ServeError};
 use crate::keeper;
@@ -190,7 +191,7 @@ impl<C: Catalogue + Drop> Engine<C> {
         ensures ended { AreEndings self.old self.new }
     {
         if let Some(parked) = self.parked.requests.get_mut(&number) {
-            parked.outcome = Some(outcome);
+            drop(mem::replace(&mut parked.outcome, Some(outcome)));
             count(&mut self.keeper.counts.settled);
         }
     }
@@ -232,7 +233,7 @@ impl<C: Catalogue + Drop> Engine<C> {
         let mut waiting = pending.waiting;
         let retained = waiting.retained.take();
         self.keeper.fill(retained, number, outcome);
-        waiting.arguments.clear();
+        let_go(&mut waiting.arguments);
         self.keeper.slot = waiting; // the next request is put into its vectors
         None
     }
@@ -321,9 +322,12 @@ impl<C: Catalogue + Drop> Engine<C> {
         if let Step::Answered = first.asker.answer_with(outcome, contexts, out) {
             return Ok(());
         }
-        self.links.remove(&first.connection);
-        let (connection, why) = (first.connection, Ending::Memory);
-        self.keeper.ended = Some(Ended { connection, why });
+        end_link(
+            &mut self.links,
+            &mut self.keeper.ended,
+            first.connection,
+            Ending::Memory,
+        );
         Err(ServeError::Memory {
             handled: 0,
             answered: 0,

@@ -9,7 +9,7 @@ ghost use Rattle.ft_orb.specs.Owners.{Owner};
 ghost use Rattle.ft_orb.specs.Requests.{Call};
 
 use crate::counts::count;
-use crate::ending::{Ended, Ending};
+use crate::ending::{Ending, end_link};
 use crate::engine::Engine;
 use crate::error::ServeError;
 use crate::serving::counted;
@@ -59,9 +59,12 @@ impl<C: Catalogue + Drop> Engine<C> {
         let Some(ask) = self.asking.take() else {
             return 0;
         };
-        self.links.remove(&ask.connection);
-        let (connection, why) = (ask.connection, Ending::GivenUp);
-        self.keeper.ended = Some(Ended { connection, why });
+        end_link(
+            &mut self.links,
+            &mut self.keeper.ended,
+            ask.connection,
+            Ending::GivenUp,
+        );
         count(&mut self.keeper.counts.given_up);
         ask.place.handled
     }
@@ -154,9 +157,12 @@ impl<C: Catalogue + Drop> Engine<C> {
         match counted(ask.place.handled, step) {
             Ok(_) => Ok(()),
             Err(cut) => {
-                self.links.remove(&ask.connection);
-                let (connection, why) = (ask.connection, Ending::Memory);
-                self.keeper.ended = Some(Ended { connection, why });
+                end_link(
+                    &mut self.links,
+                    &mut self.keeper.ended,
+                    ask.connection,
+                    Ending::Memory,
+                );
                 Err(ServeError::Memory {
                     handled: cut.handled,
                     answered: cut.answered,

@@ -11,7 +11,7 @@ ghost use Rattle.ft_orb.specs.Requests.{Call};
 
 use crate::counts::{Counts, count};
 use crate::desk::Step;
-use crate::ending::{Ended, Ending};
+use crate::ending::{Ending, end_link};
 use crate::engine::Engine;
 use crate::error::ServeError;
 use ft_log::Outcome;
@@ -102,9 +102,12 @@ impl<C: Catalogue + Drop> Engine<C> {
         if let Step::Answered = self.keeper.tell(outcome, out) {
             return Ok(());
         }
-        self.links.remove(&ask.connection);
-        let (connection, why) = (ask.connection, Ending::Memory);
-        self.keeper.ended = Some(Ended { connection, why });
+        end_link(
+            &mut self.links,
+            &mut self.keeper.ended,
+            ask.connection,
+            Ending::Memory,
+        );
         Err(ServeError::Memory {
             handled: ask.place.handled,
             answered: ask.place.handled,

@@ -30,8 +30,8 @@ returns-in-Ok-clause-table g c owner calls past moment octets written w a gave =
 pub returns-in-Err-clause-table : goal.returns-in-Err-clause-table
 returns-in-Err-clause-table g c owner calls past moment octets written w a gave =
     let done = cut-plain (map item_at c.args.contexts.now) c.args.self.now.keeper.slot (performed_in c.args.outcome) _ _ c.args.out.now.items c.finish-step.new.out.items c.in-Some.ask.place.handled c.finish-step.ensures.kept c.finish-step.result c.in-Err.cut c.counted.result c.finish-step.ensures.put c.counted.ensures c.in-Err.is in
-    let others : (q : ℕ) → (c.in-Some.ask.connection == q) ≡ false → get nat_cmp c.remove.new.self q ≡ get nat_cmp c.args.self.now.links q = λ q n. grind (arith, common_steps) in
-    let gone : get nat_cmp c.remove.new.self c.in-Some.ask.connection ≡ None = grind (arith, common_steps) in
+    let others : (q : ℕ) → (c.in-Some.ask.connection == q) ≡ false → get nat_cmp c.end_link.new.links q ≡ get nat_cmp c.args.self.now.links q = λ q n. grind (arith, common_steps) in
+    let gone : get nat_cmp c.end_link.new.links c.in-Some.ask.connection ≡ None = grind (arith, common_steps) in
     answered-cut g.C.Catalogue.offers (owning owner) c.streams_are_heard.ensures.grows calls c.args.self.now _ past moment octets written (pending_by c.args.self.now.keeper.slot c.in-Some.ask) w (ap (pending_of c.args.self.now.keeper.slot) (sym c.take.ensures.value ∙ c.in-Some.is)) a (performed_in c.args.outcome) (ap known gave) c.finish-step.result c.args.out.now.items (c.args.out.now.items ++ []) c.counted.result done c.counted.ensures refl (idle-by (ap (pending_of _) c.take.ensures.after)) (record { limits = refl; capacity = c.finish-step.ensures.capacity; share = c.finish-step.ensures.share; greatest = refl; others = others }) c.finish-step.ensures.clock c.in-Err.cut c.in-Err.is gone
 
 pub returns-in-Ok-clause-once : goal.returns-in-Ok-clause-once
@@ -62,17 +62,17 @@ returns-in-Ok-clause-late g c s held calls past waiting moment octets written w 
 pub returns-in-Err-clause-late : goal.returns-in-Err-clause-late
 returns-in-Err-clause-late g c s held calls past waiting moment octets written w a =
     let done = cut-plain (map item_at c.args.contexts.now) c.args.self.now.keeper.slot (performed_in c.args.outcome) _ _ c.args.out.now.items c.finish-step.new.out.items c.in-Some.ask.place.handled c.finish-step.ensures.kept c.finish-step.result c.in-Err.cut c.counted.result c.finish-step.ensures.put c.counted.ensures c.in-Err.is in
-    let others : (q : ℕ) → (c.in-Some.ask.connection == q) ≡ false → get nat_cmp c.remove.new.self q ≡ get nat_cmp c.args.self.now.links q = λ q n. grind (arith, common_steps) in
-    let gone : get nat_cmp c.remove.new.self c.in-Some.ask.connection ≡ None = grind (arith, common_steps) in
+    let others : (q : ℕ) → (c.in-Some.ask.connection == q) ≡ false → get nat_cmp c.end_link.new.links q ≡ get nat_cmp c.args.self.now.links q = λ q n. grind (arith, common_steps) in
+    let gone : get nat_cmp c.end_link.new.links c.in-Some.ask.connection ≡ None = grind (arith, common_steps) in
     answers-late g.C.Catalogue.offers s c.streams_are_heard.ensures.stays held calls c.args.self.now _ past waiting moment octets written w (Memory c.in-Err.cut.handled c.in-Err.cut.answered) c.args.out.now.items (c.args.out.now.items ++ []) a refl refl refl (performed_in c.args.outcome) (
     answered-cut g.C.Catalogue.offers (numbering s nothing_yet (put_at (length calls) (known (performed_in c.args.outcome)) held)) c.streams_are_heard.ensures.grows calls c.args.self.now _ past moment octets written (pending_by c.args.self.now.keeper.slot c.in-Some.ask) w (ap (pending_of c.args.self.now.keeper.slot) (sym c.take.ensures.value ∙ c.in-Some.is)) (answers-as g.C.Catalogue.offers s c.streams_are_heard.ensures.stays held calls c.args.self.now c.args.self.now past waiting moment octets written w Done [] [] a refl refl refl (performed_in c.args.outcome)) (performed_in c.args.outcome) (put-here (length calls) (known (performed_in c.args.outcome)) held) c.finish-step.result c.args.out.now.items (c.args.out.now.items ++ []) c.counted.result done c.counted.ensures refl (idle-by (ap (pending_of _) c.take.ensures.after)) (record { limits = refl; capacity = c.finish-step.ensures.capacity; share = c.finish-step.ensures.share; greatest = refl; others = others }) c.finish-step.ensures.clock c.in-Err.cut c.in-Err.is gone)
 
 pub returns-in-Err-clause-waiting : goal.returns-in-Err-clause-waiting
 returns-in-Err-clause-waiting g c w is q =
-    let others : (q : ℕ) → (c.in-Some.ask.connection == q) ≡ false → get nat_cmp c.remove.new.self q ≡ get nat_cmp c.args.self.now.links q = λ q n. grind (arith, common_steps) in
+    let others : (q : ℕ) → (c.in-Some.ask.connection == q) ≡ false → get nat_cmp c.end_link.new.links q ≡ get nat_cmp c.args.self.now.links q = λ q n. grind (arith, common_steps) in
     let same : w.connection ≡ c.in-Some.ask.connection = grind (arith, common_steps) in
-    subst (λ (n : ℕ). others_of (going_in c.remove.new.self) n (get nat_cmp c.args.self.now.parked.requests q) ≡ others_of (going_in c.args.self.now.links) n (get nat_cmp c.args.self.now.parked.requests q)) (sym same)
-    (links-others c.in-Some.ask.connection c.args.self.now.links c.remove.new.self others (get nat_cmp c.args.self.now.parked.requests q))
+    subst (λ (n : ℕ). others_of (going_in c.end_link.new.links) n (get nat_cmp c.args.self.now.parked.requests q) ≡ others_of (going_in c.args.self.now.links) n (get nat_cmp c.args.self.now.parked.requests q)) (sym same)
+    (links-others c.in-Some.ask.connection c.args.self.now.links c.end_link.new.links others (get nat_cmp c.args.self.now.parked.requests q))
 
 pub returns-in-Ok-clause-sent : goal.returns-in-Ok-clause-sent
 returns-in-Ok-clause-sent g c =

@@ -26,8 +26,8 @@ returns-clause-late g c s held calls past waiting h =
 
 pub returns-then-is_err-clause-late : goal.returns-then-is_err-clause-late
 returns-then-is_err-clause-late g c s held calls past waiting h =
-    let others : (q : ℕ) → (c.args.connection == q) ≡ false → get nat_cmp c.remove.new.self q ≡ get nat_cmp c.args.self.now.links q = λ q n. grind (arith, common_steps) in
-    let gone : get nat_cmp c.remove.new.self c.args.connection ≡ None = c.remove.ensures.updates.1 in
+    let others : (q : ℕ) → (c.args.connection == q) ≡ false → get nat_cmp c.end_link.new.links q ≡ get nat_cmp c.args.self.now.links q = λ q n. grind (arith, common_steps) in
+    let gone : get nat_cmp c.end_link.new.links c.args.connection ≡ None = c.end_link.ensures.gone in
     ends-late g.C.Catalogue.offers s c.streams_are_heard.ensures.stays held calls c.args.self.now _ past waiting (Close c.args.connection) (Memory 0 0) c.args.out.now.items c.close.new.out.items h
     (λ late r. closed-cut g.C.Catalogue.offers s late held calls c.args.self.now _ past c.args.connection r refl refl (record { limits = refl; capacity = refl; share = refl; greatest = refl; others = others }) refl refl c.args.out.now.items c.close.new.out.items c.in-Some.link.now (sym c.in-Some.ensures.value) gone (let err = c.close.ensures.err in let is = c.if-is_err.true in grind (arith, common_steps)) (let err = c.close.ensures.err in let is = c.if-is_err.true in grind (arith, common_steps))) refl refl (omega arith)
 
@@ -43,5 +43,5 @@ returns-clause-waiting g c q =
 
 pub returns-then-is_err-clause-waiting : goal.returns-then-is_err-clause-waiting
 returns-then-is_err-clause-waiting g c q =
-    let others : (q : ℕ) → (c.args.connection == q) ≡ false → get nat_cmp c.remove.new.self q ≡ get nat_cmp c.args.self.now.links q = λ q n. grind (arith, common_steps) in
-    links-others c.args.connection c.args.self.now.links c.remove.new.self others (get nat_cmp c.args.self.now.parked.requests q)
+    let others : (q : ℕ) → (c.args.connection == q) ≡ false → get nat_cmp c.end_link.new.links q ≡ get nat_cmp c.args.self.now.links q = λ q n. grind (arith, common_steps) in
+    links-others c.args.connection c.args.self.now.links c.end_link.new.links others (get nat_cmp c.args.self.now.parked.requests q)

@@ -71,8 +71,8 @@ returns-in-Ok-Whole-clause-once g c owner calls past h =
 
 pub returns-in-Err-clause-table : goal.returns-in-Err-clause-table
 returns-in-Err-clause-table g c owner calls past h =
-    let others : (q : ℕ) → (c.args.connection == q) ≡ false → get nat_cmp c.remove-in-Err.new.self q ≡ get nat_cmp c.args.self.now.links q = λ q n. grind (arith, common_steps) in
-    let held : get nat_cmp c.remove-in-Err.new.self c.args.connection ≡ None = grind (arith, common_steps) in
+    let others : (q : ℕ) → (c.args.connection == q) ≡ false → get nat_cmp c.end_link-in-Err.new.links q ≡ get nat_cmp c.args.self.now.links q = λ q n. grind (arith, common_steps) in
+    let held : get nat_cmp c.end_link-in-Err.new.links c.args.connection ≡ None = grind (arith, common_steps) in
     rests-ends g.C.Catalogue.offers (owning owner) calls past (Piece c.args.connection c.args.moment c.args.piece.now) (Memory c.in-Err.cut.handled c.in-Err.cut.answered) _ c.args.out.now.items c.serve_until_ask.new.out.items h.offer_is (still-idle c.args.self.now.asking c.args.self.now.keeper.slot _ c.requires.idle)
     (fed-err (book_by (owning owner)) (as_server c.args.self.now calls) _ past c.args.connection c.args.moment c.args.piece.now c.max-self.result c.args.out.now.items c.serve_until_ask.new.out.items c.in-Some.link.now c.in-Err.cut h.stands (record { limits = refl; capacity = c.serve_until_ask.ensures.capacity; share = c.serve_until_ask.ensures.share; greatest = refl; others = others }) c.max-self.ensures c.serve_until_ask.ensures.clock (sym c.in-Some.ensures.value) held (sym c.is_closed.ensures ∙ c.if-is_closed.false) c.in-Err.ensures.some
     (λ s t st al. breaks-is (owning owner).terms (voice_of (owning owner)) (logged c.args.self.now.keeper.log).capacity (logged c.args.self.now.keeper.log).share owner.limits (origin past c.args.connection) c.max-self.result t s c.args.out.now.items c.args.piece.now calls c.in-Err.cut (logged c.serve_until_ask.new.keeper.log).entries c.serve_until_ask.new.out.items
@@ -128,8 +128,8 @@ returns-in-Some-next_number-clause-now g c owner calls past h =
 -- no number is left
 pub returns-in_default-next_number-clause-table : goal.returns-in_default-next_number-clause-table
 returns-in_default-next_number-clause-table g c owner calls past h =
-    let others : (q : ℕ) → (c.args.connection == q) ≡ false → get nat_cmp c.remove.new.self q ≡ get nat_cmp c.args.self.now.links q = λ q n. grind (arith, common_steps) in
-    let held : get nat_cmp c.remove.new.self c.args.connection ≡ None = grind (arith, common_steps) in
+    let others : (q : ℕ) → (c.args.connection == q) ≡ false → get nat_cmp c.end_link.new.links q ≡ get nat_cmp c.args.self.now.links q = λ q n. grind (arith, common_steps) in
+    let held : get nat_cmp c.end_link.new.links c.args.connection ≡ None = grind (arith, common_steps) in
     let further = rw c.in-Ok-Asks.field-0-is at c.in-Ok-Asks.ensures.further in
     let some = further.0 in
     let within = further.1 in
@@ -183,8 +183,8 @@ returns-in-Ok-Whole-clause-late g c terms view calls past waiting all =
 pub returns-in-Err-clause-late : goal.returns-in-Err-clause-late
 returns-in-Err-clause-late g c terms view calls past waiting all =
     ends-late g.C.Catalogue.offers terms c.streams_are_heard.ensures.stays view calls c.args.self.now _ past waiting (Piece c.args.connection c.args.moment c.args.piece.now) (Memory c.in-Err.cut.handled c.in-Err.cut.answered) c.args.out.now.items c.serve_until_ask.new.out.items all (λ late h.
-    let others : (q : ℕ) → (c.args.connection == q) ≡ false → get nat_cmp c.remove-in-Err.new.self q ≡ get nat_cmp c.args.self.now.links q = λ q n. grind (arith, common_steps) in
-    let held : get nat_cmp c.remove-in-Err.new.self c.args.connection ≡ None = grind (arith, common_steps) in
+    let others : (q : ℕ) → (c.args.connection == q) ≡ false → get nat_cmp c.end_link-in-Err.new.links q ≡ get nat_cmp c.args.self.now.links q = λ q n. grind (arith, common_steps) in
+    let held : get nat_cmp c.end_link-in-Err.new.links c.args.connection ≡ None = grind (arith, common_steps) in
     rests-ends g.C.Catalogue.offers (numbering terms late view) calls past (Piece c.args.connection c.args.moment c.args.piece.now) (Memory c.in-Err.cut.handled c.in-Err.cut.answered) _ c.args.out.now.items c.serve_until_ask.new.out.items h.offer_is (still-idle c.args.self.now.asking c.args.self.now.keeper.slot _ c.requires.idle)
     (fed-err (book_by (numbering terms late view)) (as_server c.args.self.now calls) _ past c.args.connection c.args.moment c.args.piece.now c.max-self.result c.args.out.now.items c.serve_until_ask.new.out.items c.in-Some.link.now c.in-Err.cut h.stands (record { limits = refl; capacity = c.serve_until_ask.ensures.capacity; share = c.serve_until_ask.ensures.share; greatest = refl; others = others }) c.max-self.ensures c.serve_until_ask.ensures.clock (sym c.in-Some.ensures.value) held (sym c.is_closed.ensures ∙ c.if-is_closed.false) c.in-Err.ensures.some
     (λ s t st al. breaks-is terms.terms (voice_of (numbering terms late view)) (logged c.args.self.now.keeper.log).capacity (logged c.args.self.now.keeper.log).share terms.limits (origin past c.args.connection) c.max-self.result t s c.args.out.now.items c.args.piece.now calls c.in-Err.cut (logged c.serve_until_ask.new.keeper.log).entries c.serve_until_ask.new.out.items
@@ -194,8 +194,8 @@ returns-in-Err-clause-late g c terms view calls past waiting all =
 pub returns-in_default-next_number-clause-late : goal.returns-in_default-next_number-clause-late
 returns-in_default-next_number-clause-late g c terms view calls past waiting all =
     ends-late g.C.Catalogue.offers terms c.streams_are_heard.ensures.stays view calls c.args.self.now _ past waiting (Piece c.args.connection c.args.moment c.args.piece.now) (Memory c.in-Ok-Asks.place.handled c.in-Ok-Asks.place.handled) c.args.out.now.items c.serve_until_ask.new.out.items all (λ late h.
-    let others : (q : ℕ) → (c.args.connection == q) ≡ false → get nat_cmp c.remove.new.self q ≡ get nat_cmp c.args.self.now.links q = λ q n. grind (arith, common_steps) in
-    let held : get nat_cmp c.remove.new.self c.args.connection ≡ None = grind (arith, common_steps) in
+    let others : (q : ℕ) → (c.args.connection == q) ≡ false → get nat_cmp c.end_link.new.links q ≡ get nat_cmp c.args.self.now.links q = λ q n. grind (arith, common_steps) in
+    let held : get nat_cmp c.end_link.new.links c.args.connection ≡ None = grind (arith, common_steps) in
     let further = rw c.in-Ok-Asks.field-0-is at c.in-Ok-Asks.ensures.further in
     let some = further.0 in
     let within = further.1 in
@@ -280,15 +280,15 @@ returns-in-Ok-clause-late g c terms view calls past waiting all =
 pub returns-in-Err-counted-clause-late : goal.returns-in-Err-counted-clause-late
 returns-in-Err-counted-clause-late g c terms view calls past waiting all =
     let h = all.rests in
-    let others : (q : ℕ) → (c.args.connection == q) ≡ false → get nat_cmp c.remove-in-Err-counted.new.self q ≡ get nat_cmp c.args.self.now.links q = λ q n. grind (arith, common_steps) in
+    let others : (q : ℕ) → (c.args.connection == q) ≡ false → get nat_cmp c.end_link-in-Err-counted.new.links q ≡ get nat_cmp c.args.self.now.links q = λ q n. grind (arith, common_steps) in
     let further = rw c.in-Ok-Repeats.field-0-is at c.in-Ok-Repeats.ensures.further in
-    let gone : get nat_cmp c.remove-in-Err-counted.new.self c.args.connection ≡ None = grind (arith, common_steps) in
+    let gone : get nat_cmp c.end_link-in-Err-counted.new.links c.args.connection ≡ None = grind (arith, common_steps) in
     repeats-cut g.C.Catalogue.offers terms c.streams_are_heard.ensures.stays c.streams_are_heard.ensures.grows view calls c.args.self.now _ past c.args.connection c.args.moment c.args.piece.now c.max-self.result c.args.out.now.items c.serve_until_ask.new.out.items c.in-Some.link.now c.serve_until_ask.new.link c.in-Ok-Repeats.repeat c.in-Ok-Repeats.place waiting
     all h.offer_is (still-idle c.args.self.now.asking c.args.self.now.keeper.slot _ c.requires.idle) (record { limits = refl; capacity = c.serve_until_ask.ensures.capacity; share = c.serve_until_ask.ensures.share; greatest = refl; others = others }) c.max-self.ensures c.serve_until_ask.ensures.clock (sym c.in-Some.ensures.value) (sym c.is_closed.ensures ∙ c.if-is_closed.false) further.0 further.1
     (λ voice s t st al. repeats-is terms.terms voice (logged c.args.self.now.keeper.log).capacity (logged c.args.self.now.keeper.log).share terms.limits (origin past c.args.connection) c.max-self.result t s c.args.out.now.items c.args.piece.now calls (pause_by c.serve_until_ask.new.keeper.slot c.in-Ok-Repeats.field-0) c.in-Ok-Repeats.repeat c.in-Ok-Repeats.place c.serve_until_ask.new.link (logged c.serve_until_ask.new.keeper.log).entries c.serve_until_ask.new.out.items (ap (pause_by c.serve_until_ask.new.keeper.slot) c.in-Ok-Repeats.field-0-is)
     (c.in-Ok-Repeats.ensures.ok terms.terms voice terms.limits (origin past c.args.connection) t s c.args.out.now.items calls (sym h.offer_is) (start-at terms.terms voice (logged c.args.self.now.keeper.log).capacity (logged c.args.self.now.keeper.log).share terms.limits (origin past c.args.connection) c.max-self.result t s c.args.piece.now c.in-Some.link.now calls (logged c.args.self.now.keeper.log).entries c.args.out.now.items st al)))
     refl refl _ c.answer_repeat-step.result c.answer_repeat-step.new.out.items c.answer_repeat-step.ensures.joins c.answer_repeat-step.ensures.others gone c.in-Err-counted.cut (sym c.counted.ensures ∙ c.in-Err-counted.is)
-    (fewer-go (c.get_mut.follows.lender c.serve_until_ask.new.link) c.remove-in-Err-counted.new.self c.args.connection (λ q n. grind (arith, common_steps)) gone)
+    (fewer-go (c.get_mut.follows.lender c.serve_until_ask.new.link) c.end_link-in-Err-counted.new.links c.args.connection (λ q n. grind (arith, common_steps)) gone)
 
 pub returns-in-Ok-clause-parked : goal.returns-in-Ok-clause-parked
 returns-in-Ok-clause-parked g c = joined-parked (get nat_cmp c.args.self.now.parked.requests) (get nat_cmp c.answer_repeat-step.new.parked.requests) c.in-Ok-Repeats.repeat.number c.args.self.now.places.joined c.args.connection _ c.in-Ok-Repeats.repeat c.answer_repeat-step.result c.serve_until_ask.new.out.items c.answer_repeat-step.new.out.items c.answer_repeat-step.ensures.joins c.answer_repeat-step.ensures.others
@@ -391,13 +391,13 @@ returns-in-Some-next_number-clause-waiting g c q =
 
 pub returns-in_default-next_number-clause-waiting : goal.returns-in_default-next_number-clause-waiting
 returns-in_default-next_number-clause-waiting g c q =
-    let others : (q : ℕ) → (c.args.connection == q) ≡ false → get nat_cmp c.remove.new.self q ≡ get nat_cmp c.args.self.now.links q = λ q n. grind (arith, common_steps) in
-    links-others c.args.connection c.args.self.now.links c.remove.new.self others (get nat_cmp c.args.self.now.parked.requests q)
+    let others : (q : ℕ) → (c.args.connection == q) ≡ false → get nat_cmp c.end_link.new.links q ≡ get nat_cmp c.args.self.now.links q = λ q n. grind (arith, common_steps) in
+    links-others c.args.connection c.args.self.now.links c.end_link.new.links others (get nat_cmp c.args.self.now.parked.requests q)
 
 pub returns-in-Err-clause-waiting : goal.returns-in-Err-clause-waiting
 returns-in-Err-clause-waiting g c q =
-    let others : (q : ℕ) → (c.args.connection == q) ≡ false → get nat_cmp c.remove-in-Err.new.self q ≡ get nat_cmp c.args.self.now.links q = λ q n. grind (arith, common_steps) in
-    links-others c.args.connection c.args.self.now.links c.remove-in-Err.new.self others (get nat_cmp c.args.self.now.parked.requests q)
+    let others : (q : ℕ) → (c.args.connection == q) ≡ false → get nat_cmp c.end_link-in-Err.new.links q ≡ get nat_cmp c.args.self.now.links q = λ q n. grind (arith, common_steps) in
+    links-others c.args.connection c.args.self.now.links c.end_link-in-Err.new.links others (get nat_cmp c.args.self.now.parked.requests q)
 
 pub returns-in-Ok-clause-waiting : goal.returns-in-Ok-clause-waiting
 returns-in-Ok-clause-waiting g c q =
@@ -408,8 +408,8 @@ returns-in-Ok-clause-waiting g c q =
 pub returns-in-Err-counted-clause-waiting : goal.returns-in-Err-counted-clause-waiting
 returns-in-Err-counted-clause-waiting g c q =
     let others : (q : ℕ) → (c.args.connection == q) ≡ false → get nat_cmp (c.get_mut.follows.lender c.serve_until_ask.new.link) q ≡ get nat_cmp c.args.self.now.links q = λ q n. grind (arith, common_steps) in
-    let gone : (q : ℕ) → (c.args.connection == q) ≡ false → get nat_cmp c.remove-in-Err-counted.new.self q ≡ get nat_cmp c.args.self.now.links q = λ q n. grind (arith, common_steps) in
-    links-others c.args.connection (c.get_mut.follows.lender c.serve_until_ask.new.link) c.remove-in-Err-counted.new.self (λ q n. gone q n ∙ sym (others q n)) (get nat_cmp c.answer_repeat-step.new.parked.requests q)
+    let gone : (q : ℕ) → (c.args.connection == q) ≡ false → get nat_cmp c.end_link-in-Err-counted.new.links q ≡ get nat_cmp c.args.self.now.links q = λ q n. grind (arith, common_steps) in
+    links-others c.args.connection (c.get_mut.follows.lender c.serve_until_ask.new.link) c.end_link-in-Err-counted.new.links (λ q n. gone q n ∙ sym (others q n)) (get nat_cmp c.answer_repeat-step.new.parked.requests q)
     ∙ joined-others c.args.connection c.args.self.now.places.joined (going_in (c.get_mut.follows.lender c.serve_until_ask.new.link)) c.in-Ok-Repeats.repeat (get nat_cmp c.args.self.now.parked.requests) (get nat_cmp c.answer_repeat-step.new.parked.requests) c.answer_repeat-step.result c.serve_until_ask.new.out.items c.answer_repeat-step.new.out.items c.answer_repeat-step.ensures.joins c.answer_repeat-step.ensures.others q
     ∙ links-others c.args.connection c.args.self.now.links (c.get_mut.follows.lender c.serve_until_ask.new.link) others (get nat_cmp c.args.self.now.parked.requests q)
 

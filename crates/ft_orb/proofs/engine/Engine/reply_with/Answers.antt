@@ -4,6 +4,8 @@ use Rattle.std.specs.BTreeMap.{get}
 use Rattle.std.specs.Ordering.{nat_cmp}
 use Rattle.ft_log.specs.View.{performed_in}
 use Rattle.ft_log.specs.Performed.{Performed}
+use Rattle.ft_orb.specs.Endings.{ending_of}
+use Rattle.ft_orb.specs.declared.ending.Ended.{Ended}
 use Rattle.ft_orb.specs.declared.ending.Ending.TheVariants.{Memory as OutOfMemory}
 use Rattle.ft_orb.specs.declared.parked.Parked.{Parked}
 use Rattle.ft_orb.specs.declared.parked.Waiter.{Waiter}
@@ -55,8 +57,8 @@ returns g c = record {
       let there : IsSome (get nat_cmp c.args.self.now.parked.requests n) = subst (λ (o : Option Parked). IsSome o) (sym was) refl in
       let wrote = (c.get_mut.follows.holds _).3 there in
       let same : performed_in c.in-Some-outcome.outcome ≡ outcome = (let both = sym (told-is c.args.self.now n p _ was (sym c.clear.ensures.0.1 ∙ c.in-Some-outcome.is)) ∙ told in cc) in
-      let others : (q : ℕ) → (c.in-Some-pop_front.first.connection == q) ≡ false → get nat_cmp c.remove.new.self q ≡ get nat_cmp c.args.self.now.links q = λ q n. grind (arith, common_steps) in
-      let gone : get nat_cmp c.remove.new.self c.in-Some-pop_front.first.connection ≡ None = c.remove.ensures.updates.1 in
+      let others : (q : ℕ) → (c.in-Some-pop_front.first.connection == q) ≡ false → get nat_cmp c.end_link.new.links q ≡ get nat_cmp c.args.self.now.links q = λ q n. grind (arith, common_steps) in
+      let gone : get nat_cmp c.end_link.new.links c.in-Some-pop_front.first.connection ≡ None = c.end_link.ensures.gone in
       let rests = rests-lost g.C.Catalogue.offers (numbering s nothing_yet held) calls c.args.self.now _ past c.in-Some-pop_front.first.connection h.rests refl refl (record { limits = refl; capacity = refl; share = refl; greatest = refl; others = others }) refl refl gone in
       let put = un-put c.answer_with.result _ _ _ c.answer_with.ensures (λ is. c.in_default-answer_with.not-Answered is) in
       unreplied-late g.C.Catalogue.offers s held calls c.args.self.now _ past waiting h n p was q c.clear.ensures c.in-Some-pop_front.first _ c.in-Some-pop_front.ensures.items c.clear.ensures.0.0 wrote.1 (λ m apart. wrote.2 m (not-at n m apart)) refl refl w rest waits
@@ -78,7 +80,7 @@ returns g c = record {
       let was : parked_at c.args.self.now n ≡ Some p = grind (arith, common_steps) in
       let first = first-by g.C.Catalogue.offers s held calls c.args.self.now c.args.self.now past waiting h n p was c.clear.new.self c.clear.ensures c.in-Some-pop_front.first _ c.in-Some-pop_front.ensures.items in
       let same : c.in-Some-pop_front.first ≡ w = (let both = sym waits ∙ first in cc) in
-      ap (λ (x : Waiter). cond (x.connection == q) (Some OutOfMemory) None) same;
+      ap (λ (e : Option Ended). ending_of e q) c.end_link.ensures.last ∙ ap (λ (x : Waiter). cond (x.connection == q) (Some OutOfMemory) None) same;
   parked =
       let n = c.args.number in
       let p = c.in-Some.parked.now in

@@ -34,8 +34,8 @@ pub returns-clause-given_up : goal.returns-clause-given_up
 returns-clause-given_up g c s held calls past waiting moment octets written w a =
     let slot = c.args.self.now.keeper.slot in
     let asks = sym c.take.ensures.value ∙ c.in-Some.is in
-    let others : (q : ℕ) → (c.in-Some.ask.connection == q) ≡ false → get nat_cmp c.remove.new.self q ≡ get nat_cmp c.args.self.now.links q = λ q n. grind (arith, common_steps) in
-    let gone : get nat_cmp c.remove.new.self c.in-Some.ask.connection ≡ None = grind (arith, common_steps) in
+    let others : (q : ℕ) → (c.in-Some.ask.connection == q) ≡ false → get nat_cmp c.end_link.new.links q ≡ get nat_cmp c.args.self.now.links q = λ q n. grind (arith, common_steps) in
+    let gone : get nat_cmp c.end_link.new.links c.in-Some.ask.connection ≡ None = grind (arith, common_steps) in
     let handled : handled_in c.args.self.now ≡ c.in-Some.ask.place.handled = ap (λ (o : Option Ask). option_map_or (λ (ask : Ask). ask.place.handled) o 0) asks in
     cut-as g.C.Catalogue.offers s held calls past waiting w.connection moment octets written (handled_in c.args.self.now) c.in-Some.ask.place.handled _ handled
     (leaves-late g.C.Catalogue.offers s c.streams_are_heard.ensures.stays held calls c.args.self.now _ past waiting moment octets written w (Memory c.in-Some.ask.place.handled c.in-Some.ask.place.handled) [] [] a refl refl refl (
@@ -58,7 +58,7 @@ returns-clause-counts g c s held calls past waiting moment octets written w a =
 
 pub returns-clause-waiting : goal.returns-clause-waiting
 returns-clause-waiting g c w is q =
-    let others : (q : ℕ) → (c.in-Some.ask.connection == q) ≡ false → get nat_cmp c.remove.new.self q ≡ get nat_cmp c.args.self.now.links q = λ q n. grind (arith, common_steps) in
+    let others : (q : ℕ) → (c.in-Some.ask.connection == q) ≡ false → get nat_cmp c.end_link.new.links q ≡ get nat_cmp c.args.self.now.links q = λ q n. grind (arith, common_steps) in
     let same : w.connection ≡ c.in-Some.ask.connection = grind (arith, common_steps) in
-    subst (λ (n : ℕ). others_of (going_in c.remove.new.self) n (get nat_cmp c.args.self.now.parked.requests q) ≡ others_of (going_in c.args.self.now.links) n (get nat_cmp c.args.self.now.parked.requests q)) (sym same)
-    (links-others c.in-Some.ask.connection c.args.self.now.links c.remove.new.self others (get nat_cmp c.args.self.now.parked.requests q))
+    subst (λ (n : ℕ). others_of (going_in c.end_link.new.links) n (get nat_cmp c.args.self.now.parked.requests q) ≡ others_of (going_in c.args.self.now.links) n (get nat_cmp c.args.self.now.parked.requests q)) (sym same)
+    (links-others c.in-Some.ask.connection c.args.self.now.links c.end_link.new.links others (get nat_cmp c.args.self.now.parked.requests q))

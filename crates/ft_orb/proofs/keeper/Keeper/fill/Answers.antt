@@ -7,6 +7,6 @@ use Rattle.ft_orb.proofs.keeper.Keeper.fill.Goals as goal
 
 pub invariant_of-self : goal.invariant_of-self
 invariant_of-self c = record {
-  renderable = subst AreRenderable (sym (ap (λ (l : Logged). l.entries) c.fill.ensures))
+  renderable = subst AreRenderable (sym (ap (λ (l : Logged). l.entries) c.fill.ensures.entries))
       (renderable-filled (key_of c.in-Some.field-0.key) c.args.number (performed_in c.args.outcome) (logged c.args.self.now.log).entries c.requires.renderable c.args.self.now.renderable);
 }

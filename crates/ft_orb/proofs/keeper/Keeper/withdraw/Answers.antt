@@ -8,6 +8,6 @@ use Rattle.ft_orb.proofs.keeper.Keeper.withdraw.Goals as goal
 
 pub invariant_of-self : goal.invariant_of-self
 invariant_of-self c = record {
-  renderable = subst AreRenderable (sym (ap (λ (l : Logged). l.entries) c.withdraw.ensures))
+  renderable = subst AreRenderable (sym (ap (λ (l : Logged). l.entries) c.withdraw.ensures.entries))
       (renderable-others (λ e. not (is_parked_at (key_of c.in-Some.field-0.key) c.args.number e)) (logged c.args.self.now.log).entries c.args.self.now.renderable);
 }
