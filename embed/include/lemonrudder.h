@@ -544,7 +544,7 @@ LR_API int64_t lr_server_held_by(lr_server *server, const void *client, size_t s
 LR_API int64_t lr_server_next_expiry(lr_server *server, uint64_t *moment);
 
 /* A moment has come: what expired before it is forgotten. So does each request that carries FT_REQUEST; where none come
- * for long, this gives memory back. LR_E_EMPTY, LR_E_ASKING. */
+ * for long, this gives memory back: that of 520 outcomes at a call. LR_E_EMPTY, LR_E_ASKING. */
 LR_API int64_t lr_server_tick(lr_server *server, uint64_t moment);
 
 /* Exchanges what the server has on offer and a catalogue: so objects are added and taken away while it serves. What is

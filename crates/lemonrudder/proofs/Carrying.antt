@@ -1,11 +1,11 @@
 -- What replies carry.
-use Rattle.std.proofs.Common.{◌≡◌, ◌∙◌, ◌⊎◌, ◌==◌, ◌≤◌, if◌then◌else◌, ℕ, Bool, true, false, List, [], ◌∷◌, ◌++◌, length, option_map, Option, Some, None, IsSome, IsTrue, Result, Ok, Err, is_err, ap, inl, inr, refl, sym, subst, arith}
+use Rattle.std.proofs.Common.{◌≡◌, ◌∙◌, ◌⊎◌, ◌==◌, ◌≤◌, if◌then◌else◌, ℕ, Bool, true, false, Bor, List, [], ◌∷◌, ◌++◌, length, map, option_map, Option, Some, None, IsSome, IsTrue, Result, Ok, Err, is_err, ap, inl, inr, refl, sym, subst, arith}
 use Rattle.std.proofs.lemmas.Bool.{cases_lt, false≢true}
 use Rattle.std.proofs.lemmas.Option.{none-some}
 use Rattle.cdr_core.specs.Writing.{octets_of}
 use Rattle.cdr_core.specs.declared.order.Order.TheVariants.{Big}
 use Rattle.giop_core.specs.declared.header.MessageKind.TheVariants.{Reply}
-use Rattle.giop_core.specs.Items.{list_value}
+use Rattle.giop_core.specs.Items.{item_at, list_value}
 use Rattle.giop_core.specs.Laws.{rest_after}
 use Rattle.giop_core.specs.Written.{reply_fields}
 use Rattle.ft_log.specs.Holding.{Holding}
@@ -23,6 +23,7 @@ use Rattle.ft_orb.specs.Parked.{going_in, on_going}
 use Rattle.ft_orb.specs.Parking.{Settings, Stays, parked_at, told_in, told_of}
 use Rattle.ft_orb.specs.Requests.{Call}
 use Rattle.ft_orb.specs.Tellings.{Closing, Failed, Located, Replied, Telling, nothing_yet, reply_told}
+use Rattle.ft_orb.proofs.Carried.{carries-none as carried-none}
 use Rattle.ft_orb.proofs.Late.{links-go}
 use Rattle.lemonrudder.specs.declared.serving.replying.Said.{Said}
 use Rattle.lemonrudder.specs.declared.terms.Setup.{Setup}
@@ -76,6 +77,11 @@ carried-are said asker outcome = by-is (can-or said asker outcome) said
 
 pub carries-are : (said : Contexts) (outcome : Performed) → Carries said outcome (λ w. carried_by said (Some w.asker) (Some outcome))
 carries-are said outcome w = carried-are said (Some w.asker) (Some outcome)
+
+-- each reply can carry none
+pub carries-empty : (contexts : List (ℕ × Bor (List ℕ))) (asker : Option Asker) (outcome : Option Performed) → length contexts ≡ 0 → CanCarry (map item_at contexts) asker outcome
+carries-empty [] asker outcome none = carried-none asker outcome
+carries-empty (x ∷ contexts) asker outcome none = absurd cc
 
 -- of none, none
 pub carries-none : (outcome : Performed) → Carries [] outcome (λ w. [])

@@ -31,11 +31,11 @@ use Rattle.ft_orb.specs.declared.parked.Parked.{Parked}
 use Rattle.ft_orb.specs.Parking.{CanSettle, parked_at, parked_in}
 use Rattle.lemonrudder.specs.Beforehand.{ByNamed, OnReplyContexts, Says, TellsException, TellsIfCan}
 use Rattle.lemonrudder.specs.Naming.{or_range, order_named}
-use Rattle.lemonrudder.specs.Outcomes.{Answers, AreRead, AreValuesOf, ByName, CanBe, HandsIn, IsBody, MayBeRaised, Raises, exception_octets, outcome_read}
+use Rattle.lemonrudder.specs.Outcomes.{Answers, AnswersWith, AreRead, AreValuesOf, ByName, CanBe, HandsIn, IsBody, MayBeRaised, Raises, exception_octets, forgetting, outcome_read}
 use Rattle.giop_core.specs.Items.{item_at}
 use Rattle.lemonrudder.specs.declared.serving.replying.Said.{Said}
 use Rattle.lemonrudder.specs.RawCalls.{AreNoContexts, IsShortFor}
-use Rattle.lemonrudder.specs.Replying.{AreLent, AreSaid, Contexts, IsSaid, IsWhyUnsaid}
+use Rattle.lemonrudder.specs.Replying.{AreLent, AreSaid, Contexts, IsSaid, IsWhyUnsaid, left_for, said_for}
 use Rattle.lemonrudder.specs.Serves.{ByFound, ByWaiting}
 use Rattle.lemonrudder.specs.Spelled.{AreThose, AreValues}
 use Rattle.lemonrudder.specs.Tickets.{named_by, ticket_of, waiting_by}
@@ -220,6 +220,12 @@ asked-same s a = ap (λ (q : IsTrue (is_asked_there s.connections s.engine)). re
 
 pub answers-asked : (f : Found) (n : ℕ) (p : Performed) (said : Contexts) (s t : Serving) (r : Result ℕ Refusal) (a : IsTrue (is_asked_there s.connections s.engine)) → Answers f n p said (record s { asked = a }) t r → Answers f n p said s t r
 answers-asked f n p said s t r a answers = subst (λ (m : Serving). Answers f n p said m t r) (asked-same s a) answers
+
+-- where nothing was said nothing is told with an outcome
+pub answers-unsaid : (ticket : ℕ) (f : Found) (n : ℕ) (p : Performed) (s t : Serving) (r : Result ℕ Refusal) → s.setup.said ≡ None → Answers f n p [] s t r → AnswersWith ticket f n p s t r
+answers-unsaid ticket f n p s t r none answers =
+    let same : s ≡ forgetting ticket s = ap (λ (o : Option Said). record s { setup = record s.setup { said = o } }) (none ∙ sym (ap (left_for ticket) none)) in
+    inr ([], subst (λ (o : Option Said). AreSaid (said_for ticket o) []) (sym none) refl, subst (λ (m : Serving). Answers f n p [] m t r) same answers)
 
 -- what may be an outcome is so by the engine alone
 pub can-same : (f : Found) (p : Performed) (s m : Serving) → m.engine ≡ s.engine → CanBe f p s → CanBe f p m

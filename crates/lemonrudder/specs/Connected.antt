@@ -1,5 +1,5 @@
 -- The connections of a server: words of `Serves`, and so of what the exports promise.
-use Rattle.std.specs.Prelude.{◌≡◌, ◌==◌, ℕ, Bool, true, false, List, [], length, Option, Some, None, is_some}
+use Rattle.std.specs.Prelude.{◌≡◌, ◌==◌, ◌<◌, ℕ, Bool, true, false, List, [], length, Option, Some, None, is_some}
 use Rattle.std.specs.Option.{option_map_or}
 use Rattle.std.specs.Ordering.{nat_cmp}
 use Rattle.std.specs.BTreeMap.{get}
@@ -74,6 +74,10 @@ abbrev pub StartsLeaving : ℕ → Connections → Connections → Type 0
 StartsLeaving c k l = AreSame k l × (is_there k c ≡ true → leaves_in l c ≡ true) × (why_in l c ≡ why_in k c) × AreOthersNoted c k l
 
 -- Words of private functions.
+
+-- octets of a connection are heard: it is there, it is not leaving, and fewer octets are due on it than so many
+abbrev pub Hears : (most : ℕ) → Connections → ℕ → Type 0
+Hears most k c = (is_there k c ≡ true) × (leaves_in k c ≡ false) × (length (owed_in k c) < most)
 
 -- the connection of what waits is there, if something waits
 abbrev pub is_asked_there : {C : Type 0} → Connections → Engine C → Bool

@@ -1,6 +1,6 @@
 //! The connections of a server, what is due on each, and what is noted of it.
 
-ghost use Rattle.std.specs.Prelude.{◌≡◌, [], ℕ, false, true, drop, length, min, OnErr, OnOk, IfErr};
+ghost use Rattle.std.specs.Prelude.{◌≡◌, ◌↔◌, [], ℕ, false, true, drop, length, min, OnErr, OnOk, IfErr, IsTrue};
 ghost use Rattle.lemonrudder.specs.Dues.{IsPlaced, owed};
 
 use crate::due::Due;
@@ -13,23 +13,22 @@ use std::mem;
 /// A connection, from when it is opened until it is lost.
 #[derive(Drop)]
 pub struct Connection {
-    due: Due,
+    pub(crate) due: Due,
     /// Goodbye is said on it once nobody waits there for an outcome.
     leaving: bool,
     /// Why it ended.
     why: Option<Ending>,
-    ghost placed: { IsPlaced due },
 }
 
 /// The connections, by their numbers.
 #[derive(Drop)]
 pub struct Connections {
     alloc: Global,
-    entries: BTreeMap<u64, Connection>,
+    pub(crate) entries: BTreeMap<u64, Connection>,
 }
 
 impl Connections {
-    ghost use Rattle.lemonrudder.specs.Connected.{AreAsNoted, AreOthers, AreOthersNoted, AreSame, Notes, OnlyDue, StartsLeaving, how_many, is_there, leaves_in, owed_in, why_in};
+    ghost use Rattle.lemonrudder.specs.Connected.{AreAsNoted, AreOthers, AreOthersNoted, AreSame, Hears, Notes, OnlyDue, StartsLeaving, how_many, is_there, leaves_in, owed_in, why_in};
     ghost use Rattle.lemonrudder.specs.Refusals.{filled};
 
     /// None.
@@ -43,6 +42,7 @@ impl Connections {
     }
 
     /// Whether there is one of a number.
+    #[inline(always)]
     pub fn has(&self, connection: u64) -> bool
         ensures { result ≡ is_there self.now connection }
     {
@@ -100,17 +100,19 @@ impl Connections {
         }
     }
 
-    /// How many octets are due on one.
-    pub fn due_len(&self, connection: u64) -> usize
-        ensures { result ≡ length (owed_in self.now connection) }
+    /// Whether octets of one are heard: it is there, it is not leaving, and fewer octets are due on it than so many.
+    #[inline(always)]
+    pub fn hears(&self, connection: u64, most: usize) -> bool
+        ensures { IsTrue result ↔ Hears most self.now connection }
     {
         match self.entries.get(&connection) {
-            Some(found) => found.due.len(),
-            None => 0,
+            Some(found) => !found.leaving && found.due.len() < most,
+            None => false,
         }
     }
 
     /// Takes what is due on one, to be put back.
+    #[inline(always)]
     pub fn take(&mut self, connection: u64) -> Due
         ensures owed { owed result ≡ owed_in self.old connection }
         ensures placed { IsPlaced result }
@@ -119,23 +121,25 @@ impl Connections {
     {
         let none = Due::new(Vec::new(self.alloc));
         match self.entries.get_mut(&connection) {
-            Some(found) => mem::replace(&mut found.due, none),
+            Some(found) => mem::replace(&mut found.due, none).placed(),
             None => none,
         }
     }
 
     /// This is due on one, if there is one.
+    #[inline(always)]
     pub fn put(&mut self, connection: u64, due: Due)
         ensures owed { is_there self.old connection ≡ true → owed_in self.new connection ≡ owed due }
         ensures only { OnlyDue connection self.old self.new }
         ensures noted { AreAsNoted self.old self.new }
     {
         if let Some(found) = self.entries.get_mut(&connection) {
-            found.due = due.placed();
+            found.due = due;
         }
     }
 
     /// Moves octets that are due on one into a room, as many as it has, and answers how many.
+    #[inline(always)]
     pub fn output(&mut self, connection: u64, room: &mut [u8]) -> u64
         ensures count { result ≡ min (length (owed_in self.old connection)) (length room.old) }
         ensures room { room.new ≡ filled (owed_in self.old connection) room.old }
@@ -150,6 +154,7 @@ impl Connections {
     }
 
     /// Whether goodbye is said on one once nobody waits there for an outcome.
+    #[inline(always)]
     pub fn is_leaving(&self, connection: u64) -> bool
         ensures { result ≡ leaves_in self.now connection }
     {
@@ -179,6 +184,7 @@ impl Connections {
     }
 
     /// Notes why one ended, if it did and there is one.
+    #[inline(always)]
     pub fn note(&mut self, connection: u64, why: Option<Ending>)
         ensures same { AreSame self.old self.new }
         ensures noted { Notes connection why self.old self.new }

@@ -52,6 +52,16 @@ impl Due {
         Due { octets, taken }
     }
 
+    /// No more octets are taken than there are, and the same is due.
+    #[inline(always)]
+    pub fn place(&mut self)
+        ensures owed { owed self.new ≡ owed self.old }
+        ensures octets { self.new.octets ≡ self.old.octets }
+        ensures placed { IsPlaced self.new }
+    {
+        self.taken = self.taken.min(self.octets.len());
+    }
+
     /// Drops what is due.
     pub fn drop_all(&mut self)
         ensures owed { owed self.new ≡ [] }

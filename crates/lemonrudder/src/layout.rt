@@ -18,6 +18,7 @@ pub struct Layout {
 
 impl Layout {
     /// No member.
+    #[inline(always)]
     pub fn new() -> Layout
         ensures written { written result ≡ [] }
         ensures len { result.len ≡ 0 }
@@ -29,6 +30,7 @@ impl Layout {
     }
 
     /// Appends octets.
+    #[inline(always)]
     fn put(&mut self, octets: &[u8])
         requires { self.old.len + length octets.now ≤ 104 }
         ensures written { written self.new ≡ written self.old ++ octets.now }
@@ -40,6 +42,7 @@ impl Layout {
     }
 
     /// Appends a number of 64 bits.
+    #[inline(always)]
     pub fn put_u64(&mut self, number: u64)
         requires { self.old.len + 8 ≤ 104 }
         ensures written { written self.new ≡ written self.old ++ to_le_bytes w64 number }
@@ -49,6 +52,7 @@ impl Layout {
     }
 
     /// Appends a number of 32 bits.
+    #[inline(always)]
     pub fn put_u32(&mut self, number: u32)
         requires { self.old.len + 4 ≤ 104 }
         ensures written { written self.new ≡ written self.old ++ to_le_bytes w32 number }
@@ -58,6 +62,7 @@ impl Layout {
     }
 
     /// Appends a signed number of 32 bits.
+    #[inline(always)]
     pub fn put_i32(&mut self, number: i32)
         requires { self.old.len + 4 ≤ 104 }
         ensures written { written self.new ≡ written self.old ++ to_le_bytes w32 (cast_unsigned w32 number) }
@@ -67,6 +72,7 @@ impl Layout {
     }
 
     /// Fills a room: with the octets, as many as it has, and with zeros behind.
+    #[inline(always)]
     pub fn fill(&self, room: &mut [u8])
         requires { self.now.len ≤ 104 }
         ensures { room.new ≡ laid (written self.now) room.old }

@@ -110,6 +110,7 @@ pub fn put_refusal(head: &mut RequestHead, refused: Option<SystemName>)
 }
 
 /// Says the version, the id, the wish, how many service contexts it has and the FT_REQUEST of a request.
+#[inline(always)]
 pub fn put_question(head: &mut RequestHead, version: Version, request: Request<'_>)
     ensures { head.new ≡ with_question version request.entry.request_id request.entry.reply (contexts_left request.entry.contexts) head.old }
 {

@@ -39,8 +39,8 @@ pub struct Serving {
 
 impl Serving {
     ghost use Rattle.lemonrudder.specs.Openings.{IsNew};
-    ghost use Rattle.lemonrudder.specs.Connected.{is_there};
-    ghost use Rattle.lemonrudder.specs.Serves.{IsFull, IsIdle, OnConnect, OnFarewell, OnFeed, OnGiveUp, OnIsClosed, OnLost, OnOutput, Serves};
+    ghost use Rattle.lemonrudder.specs.Connected.{Hears, is_there};
+    ghost use Rattle.lemonrudder.specs.Serves.{IsIdle, OnConnect, OnFarewell, OnFeed, OnGiveUp, OnIsClosed, OnLost, OnOutput, Serves};
 
     /// A server to which nothing has happened.
     pub fn new(alloc: Global, families: Families, terms: Terms) -> Serving
@@ -142,6 +142,19 @@ impl Serving {
         if self.engine.is_asking() {
             return Err(Refusal::Asking);
         }
+        if self.connections.hears(connection, self.setup.terms.due) {
+            return self.serve(connection, moment, octets);
+        }
+        self.pass_over(connection, moment, octets)
+    }
+
+    /// Takes octets that are not heard, and answers how many.
+    #[inline(never)]
+    fn pass_over(&mut self, connection: u64, moment: u64, octets: &[u8]) -> Result<u64, Refusal>
+        requires idle { IsIdle self.old }
+        requires unheard { ¬ (Hears self.old.setup.terms.due self.old.connections connection) }
+        ensures { OnFeed connection moment octets.now self.old self.new result }
+    {
         if !self.connections.has(connection) {
             self.engine.tick(moment);
             return Err(Refusal::Connection);
@@ -150,17 +163,7 @@ impl Serving {
             self.engine.tick(moment);
             return Ok(count_of(octets));
         }
-        if self.is_full(connection) {
-            return Ok(0);
-        }
-        self.serve(connection, moment, octets)
-    }
-
-    /// Whether as many octets are due on a connection as may be.
-    fn is_full(&self, connection: u64) -> bool
-        ensures { IsTrue result ↔ IsFull connection self.now }
-    {
-        self.connections.due_len(connection) >= self.setup.terms.due
+        Ok(0)
     }
 
     /// Takes octets of a connection, until as many are due on it as may be.
@@ -169,12 +172,14 @@ impl Serving {
         requires there { is_there self.old.connections connection ≡ true }
         ensures { Serves connection moment octets.now self.old self.new result }
     {
-        let mut due = self.connections.take(connection);
-        let most = due.most(self.setup.terms.due);
+        let Some(found) = self.connections.entries.get_mut(&connection) else {
+            return Err(Refusal::Connection);
+        };
+        found.due.place();
+        let most = found.due.most(self.setup.terms.due);
         let fed = self
             .engine
-            .feed_within(connection, moment, octets, most, &mut due.octets);
-        self.connections.put(connection, due);
+            .feed_within(connection, moment, octets, most, &mut found.due.octets);
         let why = self.engine.ending(connection);
         self.connections.note(connection, why);
         taken_of(octets, fed)

@@ -33,6 +33,7 @@ impl Serving {
     ghost use Rattle.lemonrudder.specs.Outcomes.{AreRead, AreResults, CanBe, interface_at, member_types};
 
     /// Whether an outcome may be that of the request, which waits or is parked.
+    #[inline(always)]
     pub(super) fn can_be(&self, found: Found, outcome: &Outcome) -> bool
         ensures { IsTrue result ↔ CanBe found (performed_in outcome.now) self.now }
     {
@@ -43,6 +44,7 @@ impl Serving {
     }
 
     /// Whether octets may be the body of its Reply, of whichever status and order.
+    #[inline(always)]
     pub(super) fn can_be_body(&self, found: Found, octets: &[u8]) -> bool
         ensures { (status : Status) (order : ByteOrder) → IsTrue result ↔ CanBe found (raw status order octets.now) self.now }
     {
@@ -58,6 +60,7 @@ impl Serving {
     }
 
     /// Whether octets are results of the operation of a request.
+    #[inline(always)]
     pub(super) fn are_results(&self, asked: &Asked<'_>, order: Order, octets: &[u8]) -> bool
         ensures { IsTrue result ↔ AreResults (interface_at self.now (awaited_lent asked.now)) order octets.now }
     {

@@ -21,7 +21,7 @@ use std::alloc::Global;
 impl Serving {
     ghost use Rattle.lemonrudder.specs.Tickets.{IsFound};
     ghost use Rattle.lemonrudder.specs.declared.serving.questions.Found.TheVariants.{Waits};
-    ghost use Rattle.lemonrudder.specs.Outcomes.{Answers, AnswersAsked, CanBe, HandsIn, OnAnswer, OnAnswerRaw, OnIdentify, OnRaise, OnSystem, identity_at};
+    ghost use Rattle.lemonrudder.specs.Outcomes.{Answers, AnswersAsked, CanBe, HandsIn, OnAnswer, OnAnswerRaw, OnIdentify, OnRaise, OnSystem, AnswersWith, identity_at};
 
     /// Hands in the outcome of the request of a number, which waits, and answers the count where it is taken.
     fn answer_asked(
@@ -36,15 +36,17 @@ impl Serving {
         requires can { CanBe (Waits number connection) (performed_in outcome) self.old }
         ensures { AnswersAsked connection count (performed_in outcome) (map item_at contexts.now) self.old self.new result }
     {
-        let mut due = self.connections.take(connection);
+        let Some(found) = self.connections.entries.get_mut(&connection) else {
+            return Err(Refusal::Connection);
+        };
+        found.due.place();
         let answered = answer_carrying(
             &mut self.engine,
             number,
             outcome,
             contexts,
-            &mut due.octets,
+            &mut found.due.octets,
         );
-        self.connections.put(connection, due);
         let why = self.engine.ending(connection);
         self.connections.note(connection, why);
         done_of(count, answered)
@@ -84,6 +86,41 @@ impl Serving {
         if !self.can_be(found, &outcome) {
             return Err(Refusal::Outcome);
         }
+        self.give(ticket, found, outcome, count)
+    }
+
+    /// .. which may be that of the request.
+    #[inline(always)]
+    fn give(
+        &mut self,
+        ticket: u64,
+        found: Found,
+        outcome: Outcome,
+        count: u64,
+    ) -> Result<u64, Refusal>
+        requires found { IsFound found (waits_in self.old.engine) }
+        requires can { CanBe found (performed_in outcome) self.old }
+        ensures { AnswersWith ticket found count (performed_in outcome) self.old self.new result }
+    {
+        if self.setup.said.is_none() {
+            return self.answer_found(found, outcome, &[], count);
+        }
+        self.give_saying(ticket, found, outcome, count)
+    }
+
+    /// .. with what was said for the ticket.
+    #[inline(never)]
+    fn give_saying(
+        &mut self,
+        ticket: u64,
+        found: Found,
+        outcome: Outcome,
+        count: u64,
+    ) -> Result<u64, Refusal>
+        requires found { IsFound found (waits_in self.old.engine) }
+        requires can { CanBe found (performed_in outcome) self.old }
+        ensures { AnswersWith ticket found count (performed_in outcome) self.old self.new result }
+    {
         let said = self.setup.take_said(ticket);
         let Ok(contexts) = lent(self.alloc, &said) else {
             self.setup.said = said;
@@ -106,7 +143,7 @@ impl Serving {
             return Err(Refusal::Outcome);
         }
         let body = copy_of(self.alloc, octets)?;
-        self.hand_in(
+        self.give(
             ticket,
             found,
             Outcome::Raw(RawStatus::NoException, order, body),
@@ -171,7 +208,7 @@ impl Serving {
             return Err(Refusal::Outcome);
         }
         let body = copy_of(self.alloc, body)?;
-        self.hand_in(ticket, found, Outcome::Raw(status, order, body), 0)
+        self.give(ticket, found, Outcome::Raw(status, order, body), 0)
     }
 
     /// The answer to a request, where it asks an object that names its repository ids what it is.

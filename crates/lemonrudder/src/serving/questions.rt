@@ -51,6 +51,7 @@ impl Serving {
     }
 
     /// The request of a ticket, which waits or is parked.
+    #[inline(always)]
     pub(super) fn named_by(&self, ticket: u64) -> Result<Called<'_>, Refusal>
         ensures named { IsNamedBy (named_by ticket (waits_in self.now.engine) (parked_in self.now.engine)) result }
         ensures found { IfOk result (λ x. IsFoundAt x.found (waits_in self.now.engine)) }
@@ -65,6 +66,7 @@ impl Serving {
     }
 
     /// The request of a ticket, which is parked.
+    #[inline(never)]
     fn parked_by(&self, ticket: u64) -> Result<Called<'_>, Refusal>
         ensures named { IsNamedBy (found_parked ticket (parked_by ticket (parked_in self.now.engine))) result }
         ensures found { IfOk result (λ x. IsParkedOne x.found) }
@@ -83,6 +85,7 @@ impl Serving {
     }
 
     /// The request of a ticket of which an outcome may be said: not of one that is parked while another waits.
+    #[inline(always)]
     pub(super) fn called_by(&self, ticket: u64) -> Result<Called<'_>, Refusal>
         ensures called { IsNamedBy (called_by ticket (waits_in self.now.engine) (parked_in self.now.engine)) result }
         ensures found { IfOk result (λ x. IsFound x.found (waits_in self.now.engine)) }
@@ -98,6 +101,7 @@ impl Serving {
     }
 
     /// What the operation is that waits: raw, where it would be refused.
+    #[inline(always)]
     pub(super) fn lookup(&self, asked: &Asked<'_>) -> Lookup<'_>
         ensures { interface_of result ≡ interface_at self.now (awaited_lent asked.now) }
     {

@@ -1,13 +1,13 @@
 //! Service contexts of replies to come, which are said before an answer.
 
-ghost use Rattle.std.specs.Prelude.{◌≡◌, ◌<◌, ◌++◌, ◌∷◌, [], ℕ, IfErr, IsSome, List, None, OnOk, Some, length, map};
+ghost use Rattle.std.specs.Prelude.{◌≡◌, ◌↔◌, ◌<◌, ◌++◌, ◌∷◌, [], ℕ, IfErr, IsSome, IsTrue, List, None, OnOk, Some, length, map};
 ghost use Rattle.giop_core.specs.Items.{item_at};
 ghost use Rattle.ft_log.specs.Holding.{Holding, known};
 ghost use Rattle.ft_log.specs.Performed.{Performed};
 ghost use Rattle.ft_log.specs.View.{performed_in};
 ghost use Rattle.ft_objects.specs.Families.{families_offer};
 ghost use Rattle.ft_orb.specs.declared.parked.Waiter.{Waiter};
-ghost use Rattle.ft_orb.specs.Carrying.{asker_in, due_in, reply_if, unless_failed};
+ghost use Rattle.ft_orb.specs.Carrying.{CanCarry, asker_in, due_in, reply_if, unless_failed};
 ghost use Rattle.ft_orb.specs.Engines.{AreEndings, Awaited, CanAnswer, EndsShort, asks_in, counts_in, waits_in};
 ghost use Rattle.ft_orb.specs.History.{Event};
 ghost use Rattle.ft_orb.specs.Parking.{AreParked, AsksLate, RepliesLate, ResumesLate, Settings, Stays, left_in, put_at, told_in};
@@ -95,6 +95,20 @@ pub(super) fn lent(alloc: Global, said: &Option<Said>) -> Result<Vec<(u32, &[u8]
     }
 }
 
+/// Whether the reply to the request of a number, which waits, can carry service contexts with this outcome.
+#[inline(always)]
+fn carries(
+    engine: &Engine<Families>,
+    number: u64,
+    outcome: &Outcome,
+    contexts: &[(u32, &[u8])],
+) -> bool
+    requires can { CanAnswer (families_offer engine.now.offering.catalogue) (waits_in engine.now) number (performed_in outcome.now) }
+    ensures { IsTrue result ↔ CanCarry (map item_at contexts.now) (asker_in engine.now) (Some (performed_in outcome.now)) }
+{
+    contexts.is_empty() || engine.can_answer_with(number, outcome, contexts)
+}
+
 /// Answers the request of a number, which waits, by a reply that carries service contexts where it can.
 pub(super) fn answer_carrying(
     engine: &mut Engine<Families>,
@@ -115,7 +129,7 @@ pub(super) fn answer_carrying(
     ensures ended { OnOk result (AreEndings engine.old engine.new) }
     ensures short { (w : Awaited) → waits_in engine.old ≡ Some w → IfErr result (λ e. EndsShort engine.old engine.new w.connection e) }
 {
-    if engine.can_answer_with(number, &outcome, contexts) {
+    if carries(engine, number, &outcome, contexts) {
         return engine.answer_with(number, outcome, contexts, out);
     }
     engine.answer_with(number, outcome, &[], out)

@@ -1,10 +1,11 @@
-use Rattle.std.proofs.Common.{◌∙◌, Err, ap, inl, inr, refl, sym}
+use Rattle.std.proofs.Common.{◌∙◌, ℕ, List, Err, ap, inl, inr, refl, subst, sym}
 use Rattle.std.proofs.lemmas.Result.{err_from_is_err_and}
 use Rattle.ft_log.specs.declared.outcome.RawStatus.TheVariants.{NoException}
+use Rattle.ft_log.specs.Performed.{raw}
 use Rattle.ft_orb.specs.Engines.{awaited_lent, waits_in}
 use Rattle.ft_orb.specs.Parking.{parked_in}
 use Rattle.lemonrudder.specs.declared.refusal.Refusal.TheVariants.{Outcome}
-use Rattle.lemonrudder.specs.Outcomes.{HandsInResults}
+use Rattle.lemonrudder.specs.Outcomes.{CanBe, HandsInResults}
 use Rattle.lemonrudder.specs.Serves.{ByCalled}
 use Rattle.lemonrudder.specs.Tickets.{called_by}
 use Rattle.lemonrudder.proofs.Handing.{by_found, named, not_called, unnamed}
@@ -52,12 +53,20 @@ returns-in_err-body c =
     (by_found (called_by c.args.ticket (waits_in s.engine) (parked_in s.engine)) c.in_ok-called.called.found (awaited_lent c.in_ok-called.called.asked) s s r (HandsInResults c.args.ticket o c.args.octets.now s s r) c.in_ok-called.ensures.called
     (λ are. ((λ cannot. absurd (cannot ((c.can_be_body.ensures NoException o).0 c.if-not-can_be_body.false))), λ can. inl (c.in_err-body.ensures.1, (p.1 ∙ ap Err (p.2 ∙ c.in_err-body.ensures.0), refl))), λ none. absurd (none (c.are_results.ensures.0 c.if-not-are_results.false))))
 
+pub give-requires : goal.give-requires
+give-requires c =
+    let o = c.in_ok-order.order in
+    let f = c.in_ok-called.called.found in record {
+      found = c.in_ok-called.ensures.found;
+      can = subst (λ (l : List ℕ). CanBe f (raw NoException o l) c.args.self.now) (sym c.in_ok-body.ensures) ((c.can_be_body.ensures NoException o).0 c.if-not-can_be_body.false);
+    }
+
 pub returns : goal.returns
 returns c =
     let s = c.args.self.now in
-    let t = c.hand_in.new.self in
-    let r = c.hand_in.result in
+    let t = c.give.new.self in
+    let r = c.give.result in
     let o = c.in_ok-order.order in
     named _ o s t r (λ o. ByCalled c.args.ticket s t r (HandsInResults c.args.ticket o c.args.octets.now s t r)) (sym c.order_of.ensures ∙ c.in_ok-order.was)
     (by_found (called_by c.args.ticket (waits_in s.engine) (parked_in s.engine)) c.in_ok-called.called.found (awaited_lent c.in_ok-called.called.asked) s t r (HandsInResults c.args.ticket o c.args.octets.now s t r) c.in_ok-called.ensures.called
-    (λ are. let h = rw c.in_ok-body.ensures at c.hand_in.ensures in (h.0, λ can. inr (h.1 can)), λ none. absurd (none (c.are_results.ensures.0 c.if-not-are_results.false))))
+    (λ are. let h = rw c.in_ok-body.ensures at c.give.ensures in ((λ cannot. absurd (cannot ((c.can_be_body.ensures NoException o).0 c.if-not-can_be_body.false))), λ can. inr h), λ none. absurd (none (c.are_results.ensures.0 c.if-not-are_results.false))))

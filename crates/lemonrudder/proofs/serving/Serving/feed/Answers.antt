@@ -1,63 +1,29 @@
-use Rattle.std.proofs.Common.{Ok, ap, refl, ◌∙◌, sym}
-use Rattle.lemonrudder.proofs.Asked.{asked-idle, idle-by}
-use Rattle.lemonrudder.proofs.Idling.{not_both, not_so}
+use Rattle.std.proofs.Common.{refl, ◌∙◌, sym}
+use Rattle.lemonrudder.proofs.Asked.{idle-by}
+use Rattle.lemonrudder.proofs.Idling.{few, not_both, not_so}
 use Rattle.lemonrudder.proofs.serving.Serving.feed.Goals as goal
 
 pub returns-then-is_asking : goal.returns-then-is_asking
 returns-then-is_asking c = (λ some. (refl, refl), λ idle. absurd (not_both _ (c.is_asking.ensures.0 c.if-is_asking.true) idle))
 
-pub tick-requires : goal.tick-requires
-tick-requires c = record { idle = idle-by c.is_asking.result _ c.is_asking.ensures.1 c.if-is_asking.false }
-
 pub serve-requires : goal.serve-requires
-serve-requires c = record { idle = idle-by c.is_asking.result _ c.is_asking.ensures.1 c.if-is_asking.false; there = sym c.has.ensures ∙ c.if-not-has.false }
+serve-requires c = record { idle = idle-by c.is_asking.result _ c.is_asking.ensures.1 c.if-is_asking.false; there = (c.hears.ensures.0 c.if-hears.true).0 }
 
-pub returns-then-not-has : goal.returns-then-not-has
-returns-then-not-has c =
-    let e = c.tick.ensures in (
+pub returns-then-hears : goal.returns-then-hears
+returns-then-hears c =
+    let heard = c.hears.ensures.0 c.if-hears.true in (
       λ some. absurd (not_so c.if-is_asking.false (c.is_asking.ensures.1 some)),
       λ idle. (
-        λ none. (refl, (e.idle, (λ q. (refl, refl), refl), λ q. (refl, refl), (e.catalogue, refl), (e.asks, e.parked, e.counts), e.clock, e.forgotten, e.late, e.ended)),
-        λ there. absurd (not_so (sym c.has.ensures ∙ c.if-not-has.true) there),
-      ),
-    )
-
-pub returns-then-is_leaving : goal.returns-then-is_leaving
-returns-then-is_leaving c =
-    let e = c.tick-then-is_leaving.ensures in (
-      λ some. absurd (not_so c.if-is_asking.false (c.is_asking.ensures.1 some)),
-      λ idle. (
-        λ none. absurd (not_so none (sym c.has.ensures ∙ c.if-not-has.false)),
+        λ none. absurd (not_so none heard.0),
         λ there. (
-          λ leaves. (ap Ok c.count_of.ensures, (e.idle, (λ q. (refl, refl), refl), λ q. (refl, refl), (e.catalogue, refl), (e.asks, e.parked, e.counts), e.clock, e.forgotten, e.late, e.ended)),
-          λ stays. absurd (not_so stays (sym c.is_leaving.ensures ∙ c.if-is_leaving.true)),
+          λ leaves. absurd (not_so heard.1 leaves),
+          λ stays. (λ full. absurd (few _ _ heard.2 full), λ room. c.serve.ensures),
         ),
       ),
     )
 
-pub returns-then-is_full : goal.returns-then-is_full
-returns-then-is_full c = (
-  λ some. absurd (not_so c.if-is_asking.false (c.is_asking.ensures.1 some)),
-  λ idle. (
-    λ none. absurd (not_so none (sym c.has.ensures ∙ c.if-not-has.false)),
-    λ there. (
-      λ leaves. absurd (not_so (sym c.is_leaving.ensures ∙ c.if-is_leaving.false) leaves),
-      λ stays. (λ full. (refl, refl), λ room. absurd (room (c.is_full.ensures.0 c.if-is_full.true))),
-    ),
-  ),
-)
-
-pub returns : goal.returns
-returns c = (
-  λ some. absurd (not_so c.if-is_asking.false (c.is_asking.ensures.1 some)),
-  λ idle. (
-    λ none. absurd (not_so none (sym c.has.ensures ∙ c.if-not-has.false)),
-    λ there. (
-      λ leaves. absurd (not_so (sym c.is_leaving.ensures ∙ c.if-is_leaving.false) leaves),
-      λ stays. (λ full. absurd (not_so c.if-is_full.false (c.is_full.ensures.1 full)), λ room. c.serve.ensures),
-    ),
-  ),
-)
-
-pub invariant_of-self : goal.invariant_of-self
-invariant_of-self c = record { asked = asked-idle c.args.self.now.connections c.tick.new.self c.tick.ensures.idle }
+pub pass_over-requires : goal.pass_over-requires
+pass_over-requires c = record {
+  idle = idle-by c.is_asking.result _ c.is_asking.ensures.1 c.if-is_asking.false;
+  unheard = λ heard. absurd (not_so c.if-hears.false (c.hears.ensures.1 heard));
+}
