@@ -46,10 +46,8 @@ def costs(programs):
         title = f"{entries:>6} kept, {share:>6} of each client, {kind:9}"
         figure(title, min(ours, plain))
         print(f"{title} {ours:8.0f} {plain:8.0f} {ours / plain:5.2f}")
-    print("a call that forgets as many at once: instructions for each")
-    for entries in (1024, 65536):
-        full, more = (instructions(programs[0], entries + i, entries, entries, "together") for i in (0, 1))
-        print(f"{entries:>6} {(more - full) / entries:8.0f}")
+    full, more = (instructions(programs[0], 1024 + i, 1024, 1024, "together") for i in (0, 1))
+    print(f"a call with which 1,024 expire: {figure('together', more - full):.0f} instructions")
 
 
 def alike(programs):

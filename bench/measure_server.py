@@ -15,8 +15,9 @@ Of the other kinds each Request has a key of its own and is a piece of its own. 
 and all are one client's; of `clients` and `together` it has 116, and each is of a client of its own, whose id has 32. The
 server keeps so many outcomes, so many of each client: where that is fewer, it counts clients. Its log is full, and one
 outcome expires with each message, in the order in which they were kept, or in another (`scattered`), or all of them with
-one message (`together`), whose time is taken by itself. Memory is the most that is resident, less that of the same program
-where it only makes the messages; of 1,024 outcomes it is too little to be told.
+one message (`together`), whose time is taken by itself. Where a client's share is one outcome, all its requests are refused
+until that expires. Memory is the most that is resident, less that of the same program where it only makes the messages;
+of 1,024 outcomes it is too little to be told.
 
 Last it counts the instructions of an engine that is answered at once and of one whose owner parks each request, one or 64 at a
 time, and what a request takes in memory that is parked.
@@ -41,8 +42,12 @@ SIZES = [4096, 65536, 1]
 LARGE = 65536
 KEYED = [(kind, entries, entries) for kind in ("rising", "scattered") for entries in (1024, LARGE)]
 KEYED += [("clients", entries, entries - less) for entries in (1024, LARGE) for less in (0, 1)]
-# messages whose instructions are counted
+KEYED += [("rising", LARGE, 1)]
+# the octets of a Reply, and of one that refuses
+REPLY, REFUSAL = 32, 72
+# messages whose instructions are counted, and the counts of one message that are one mean, since hashes differ in each
 MORE = 10_000
+DRAWS = 9
 # requests that are parked at a time, and of which the memory is told
 PARKED = [1, 64]
 MANY_PARKED = 131_072
@@ -57,19 +62,22 @@ def words_of(engine, count, size, kind, *kept):
     return engine + [str(count), str(size), kind, *map(str, kept)]
 
 
-def due(count, size, kind):
+def due(count, size, kind, entries=1024, share=1024):
     """The octets that are written for messages of a kind, or that these have, and the total after them."""
     if size == 0:
         return count * MESSAGES[kind], 0
     if kind == "locate":
         return count * 20, 0
-    return count * 32, 7 if kind == "repeat" else 7 * count
+    if kind == "repeat":
+        return count * REPLY, 7
+    performed = count if share > 1 else -(-count // entries)
+    return performed * REPLY + (count - performed) * REFUSAL, 7 * performed
 
 
-def answered(text, count, size, kind):
+def answered(text, count, size, kind, *kept):
     """What a program printed, if it is what is due: a checksum, and the nanoseconds of the last message, if it says them."""
     found = re.fullmatch(rb"octets (\d+) sum (\d+) total (\d+)(?: last (\d+))?\n", text)
-    if not found or (int(found[1]), int(found[3])) != due(count, size, kind):
+    if not found or (int(found[1]), int(found[3])) != due(count, size, kind, *kept):
         sys.exit(f"{count} messages of {kind} in pieces of {size}: {text.decode().strip()!r}, not {due(count, size, kind)}")
     return int(found[2]), int(found[4] or 0)
 
@@ -89,7 +97,7 @@ class Timed:
         """Runs each program once."""
         for name, engine in self.engines.items():
             took, text, _ = run(words_of(engine, *row))
-            sum_, last = answered(text, *row[:3])
+            sum_, last = answered(text, *row)
             if self.sums.setdefault(row, sum_) != sum_:
                 sys.exit(f"{name}, {row}: the checksum is {sum_}, not {self.sums[row]}")
             self.took.setdefault((name, row), []).append(took)
@@ -148,22 +156,22 @@ def keyed(engines, timed, given):
         if not given.no_instructions:
             full, more = (counted(engines, kept[0] + count, 84, kind, *kept) for count in (0, MORE))
             line += "   " + pair(title, net(more, full, MORE), "8.0f")
-        if kept[0] == LARGE:
+        if kept[0] == LARGE and kept[1] > 1:
             made, fed = ({name: peak(words_of(engine, 2 * LARGE, size, kind, *kept)) for name, engine in engines.items()} for size in (0, 84))
             line += "   " + pair(title, net(fed, made, 1e6), "6.2f")
         print(f"{title}   {line}", flush=True)
 
 
 def all_at_once(engines, timed, given):
-    """Prints what one message costs with which all outcomes expire, beside all messages."""
+    """Prints what one message costs with which all outcomes expire."""
     row = (LARGE + 1, 84, "together", LARGE)
-    title = f"{LARGE:,} outcomes expire at one moment"
-    print(f"{title}: milliseconds ours, plain, ratio")
-    print(f"    the one message   {pair(title, {name: timed.last[name, row] / 1e6 for name in engines}, '8.2f')}")
-    print(f"    all {LARGE + 1:,}        {pair(title, {name: min(timed.took[name, row]) * 1e3 for name in engines}, '8.2f')}")
+    title = f"{LARGE:,} outcomes expire with one message"
+    print(f"{title}: ours, plain, ratio")
+    print(f"    microseconds   {pair(title, {name: timed.last[name, row] / 1e3 for name in engines}, '10.1f')}")
     if not given.no_instructions:
-        full, more = (counted(engines, count, *row[1:]) for count in (LARGE, LARGE + 1))
-        print(f"    instructions for each outcome   {pair(title, net(more, full, LARGE), '8.0f')}", flush=True)
+        draws = [net(*(counted(engines, count, *row[1:]) for count in (LARGE + 1, LARGE)), 1) for _ in range(DRAWS)]
+        mean = {name: sum(draw[name] for draw in draws) / DRAWS for name in engines}
+        print(f"    instructions   {pair(title, mean, '10.0f')}", flush=True)
 
 
 def parked(ours):

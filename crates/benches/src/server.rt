@@ -307,11 +307,7 @@ fn new_engine(
         hasher,
     );
     match engine.connect(1) {
-        Ok(()) => Ok(Owned {
-            alloc,
-            engine,
-            total: 0,
-        }),
+        Ok(()) => Ok(Owned { engine, total: 0 }),
         Err(_) => Err(Stop::Memory),
     }
 }

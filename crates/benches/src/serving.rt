@@ -4,7 +4,6 @@ use cdr_core::Val;
 use counter::Counter;
 use ft_log::Outcome;
 use ft_orb::{Engine, Fed, Server};
-use std::alloc::Global;
 
 /// A counter that is served on connection 1.
 pub(crate) trait Serving {
@@ -28,7 +27,6 @@ impl Serving for Server<Counter> {
 /// An engine, and the total that its owner keeps.
 #[derive(Drop)]
 pub(crate) struct Owned {
-    pub(crate) alloc: Global,
     pub(crate) engine: Engine<Counter>,
     pub(crate) total: i64,
 }
@@ -37,17 +35,16 @@ impl Owned {
     /// Performs the call that waits.
     fn perform(&mut self) -> Option<Outcome> {
         let asked = self.engine.asked()?;
-        outcome_of(self.alloc, asked.arguments, &mut self.total)
+        outcome_of(asked.arguments, &mut self.total)
     }
 }
 
 /// The outcome of `add` or `get`, and the total after it.
-fn outcome_of(alloc: Global, arguments: &[Val], total: &mut i64) -> Option<Outcome> {
+fn outcome_of(arguments: &[Val], total: &mut i64) -> Option<Outcome> {
     if let [Val::Long(n)] = arguments {
         *total = total.checked_add(i64::from(*n))?;
     }
-    let results = vec![in alloc; Val::LongLong(*total)].ok()?;
-    Some(Outcome::Returned(results))
+    Some(Outcome::One(Val::LongLong(*total)))
 }
 
 impl Serving for Owned {
@@ -97,7 +94,7 @@ impl Deferred {
     fn settle(&mut self, number: u64, out: &mut Vec<u8>) -> Option<()> {
         let engine = &mut self.owned.engine;
         let parked = engine.parked(number)?;
-        let outcome = outcome_of(self.owned.alloc, parked.arguments, &mut self.owned.total)?;
+        let outcome = outcome_of(parked.arguments, &mut self.owned.total)?;
         if engine.is_asking() || !engine.can_settle(number, &outcome) {
             return None;
         }
