@@ -261,9 +261,10 @@ static ssize_t read_piece(struct loop *loop, struct peer *peer) {
   return got > 0 ? got : -1;
 }
 
-/* Feeds what came and takes what is due. */
+/* Feeds what came and takes what is due. Once SIGTERM is told of, what comes is nowhere begun any more. */
 static void exchange(struct loop *loop, struct peer *peer) {
   pthread_mutex_lock(&lock);
+  if (is_told) lr_server_farewell(served, peer->connection);
   feed(loop, peer);
   collect(loop, peer);
   name_due(loop);

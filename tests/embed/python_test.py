@@ -2722,7 +2722,8 @@ class Bounds(Case):
                 self.assertEqual(await reader.read(), b"")
                 await self.drained(server, 0)
                 writer.close()
-        with mock.patch.object(_server, "_SWEEP", 0.01):
+        # (where memory was too short the connection is there until then, and says so)
+        with mock.patch.object(_server, "_SWEEP", 0.01), mock.patch.object(lr.Engine, "why", return_value=lr.Why.MEMORY):
             self.run_async(main())
 
     def test_what_is_told(self):
