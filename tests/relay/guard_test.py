@@ -9,7 +9,7 @@ import tempfile
 import threading
 import time
 import unittest
-import unittest.mock
+import unittest
 from collections.abc import Callable, Iterator
 
 from tests import base, giop
@@ -541,15 +541,17 @@ class Ends(unittest.TestCase):
 
     def test_the_system_is_told(self):
         """READY once clients are accepted, and STOPPING at SIGTERM, at a socket of either kind."""
+        words = ["--store", "memory", "--server", "127.0.0.1:1", "--listen", f"127.0.0.1:{relays.free_port()}"]
         with tempfile.TemporaryDirectory() as folder:
             for name in (os.path.join(folder, "socket"), f"@lemonrudder-{os.getpid()}"):
-                with socket.socket(socket.AF_UNIX, socket.SOCK_DGRAM) as manager:
+                with socket.socket(socket.AF_UNIX, socket.SOCK_DGRAM) as manager, \
+                        relays.Life(relays.program(), "guard", *words) as guard:
                     manager.settimeout(relays.SECONDS)
                     manager.bind(name.replace("@", "\0"))
-                    with unittest.mock.patch.dict(os.environ, {"NOTIFY_SOCKET": name}), guarded() as (_, guard):
-                        want(manager.recv(99), b"READY=1")
-                        want(guard.end(signal.SIGTERM), 0)
-                        want(manager.recv(99), b"STOPPING=1")
+                    guard.begin(manager=name)
+                    want(manager.recv(99), b"READY=1")
+                    want(guard.end(signal.SIGTERM), 0)
+                    want(manager.recv(99), b"STOPPING=1")
 
     def test_a_client_that_is_lost(self):
         """Its requests go on, and the outcome is kept."""
@@ -574,7 +576,7 @@ class Ends(unittest.TestCase):
                     peer.ended()
             other.tell(request(1, KEY, "add"))
             other.wants(giop.reply(1, number_body(1)))
-            until(lambda: guard.said().count("connection ended") == 5, "four ends are said, and that of who looked")
+            until(lambda: guard.said().count("connection ended") == 4, "four ends are said")
 
     def test_a_server_that_is_away_is_asked_seldom(self):
         """However often clients ask: with pauses that grow; and once it is there they are answered."""

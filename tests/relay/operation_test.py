@@ -226,7 +226,6 @@ class Limits(unittest.TestCase):
     def test_connections(self):
         """Who comes when there are so many is closed."""
         with self.ended("there are too many", "--peers", "3", count=2) as (_, guard), contextlib.ExitStack() as stack:
-            time.sleep(0.2)  # (until the connection that looked whether it listens is gone)
             for index in range(4):
                 peer = stack.enter_context(Peer(guard.port))
                 if index < 2:

@@ -97,9 +97,11 @@ class Life:
         self.process: subprocess.Popen | None = None
         self.log = tempfile.TemporaryFile("w+")
 
-    def begin(self, dies_at: str = "", stops_at: str = "") -> None:
-        """Begins a life, which ends or stops by itself at a point where one is named."""
+    def begin(self, dies_at: str = "", stops_at: str = "", manager: str = "") -> None:
+        """Begins a life, which ends or stops by itself at a point where one is named, and tells a socket of its state."""
         env = {**os.environ, "LEMONRUDDER_KILL": dies_at, "LEMONRUDDER_STOP": stops_at}
+        if manager:
+            env["NOTIFY_SOCKET"] = manager
         self.process = subprocess.Popen(self.words, stdin=subprocess.DEVNULL, stdout=subprocess.PIPE, stderr=self.log,
                                         text=True, env=env)
 
@@ -145,17 +147,25 @@ class Relay(Life):
 
     def __init__(self, role: str, *words: str, port: int | None = None) -> None:
         self.port = port or free_port()
+        self.manager = socket.socket(socket.AF_UNIX, socket.SOCK_DGRAM)
+        self.manager.bind("")  # (to a name that the system finds)
+        self.manager.settimeout(0.01)
         super().__init__(program(), role, "--listen", f"127.0.0.1:{self.port}", *words)
 
-    def begin(self, dies_at: str = "", stops_at: str = "") -> None:
-        super().begin(dies_at, stops_at)
+    def __exit__(self, *error: object) -> None:
+        super().__exit__(*error)
+        self.manager.close()
+
+    def begin(self, dies_at: str = "", stops_at: str = "", manager: str = "") -> None:
+        """Begins a life, and waits until it serves, which it tells the socket of who manages it."""
+        super().begin(dies_at, stops_at, manager or "@" + self.manager.getsockname()[1:].decode())
         end = time.monotonic() + SECONDS
         while not self.died():
-            with contextlib.suppress(ConnectionRefusedError), socket.create_connection(("127.0.0.1", self.port)):
-                return
+            with contextlib.suppress(TimeoutError):
+                if self.manager.recv(99) == b"READY=1":
+                    return
             if end < time.monotonic():
-                raise AssertionError("it does not listen")
-            time.sleep(0.005)
+                raise AssertionError(f"it is not ready: {self.said()}")
         raise AssertionError(f"it did not begin: {self.said()}")
 
 
