@@ -32,8 +32,7 @@ from tests.ends_model import Call
 from tests.engine import played, words_for
 from tests.engine_model import FULL, Asked, Places, Terms, line_of
 from tests.giop_peers import request
-from tests.short_model import (
-    ASKED, BEFORE, DECLINED, DUE, KEPT, OWNED, REPEATED, SILENT, UNANSWERED, outcomes)
+from tests.short_model import ASKED, BEFORE, DECLINED, DUE, KEPT, PARKED, REPEATED, SILENT, outcomes
 
 ADD_SEVEN = dict(key=b"c", operation="add", body=bytes([0, 0, 0, 7]))
 REQUEST = request(5, **ADD_SEVEN, number=1, expiration=100)
@@ -130,8 +129,8 @@ def on_connections(*messages, cuts=()):
 
 
 FIRST, OTHER = added(5, 1), added(6, 2)
-AT_ONCE = {BEFORE, ASKED, OWNED, KEPT}
-LATE = {BEFORE, ASKED, OWNED, REPEATED, UNANSWERED, DUE}
+AT_ONCE = {BEFORE, ASKED, KEPT}
+LATE = {BEFORE, ASKED, PARKED, REPEATED, DUE}
 ENGINE_SCRIPTS = [
     ("a request that comes three times", AT_ONCE, [*on_connections(FIRST)]),
     ("two requests in a piece", AT_ONCE, [*on_connections(FIRST, OTHER)]),
@@ -152,9 +151,9 @@ ENGINE_SCRIPTS = [
     ("a goodbye", {*AT_ONCE, SILENT}, [
         ("owner", "leaves"), *says(1, FIRST), ("owner", "performs"), *says(2, FIRST), ("owner", "leaves"),
         *says(3, FIRST, OTHER)]),
-    ("a request that is parked and declined", {BEFORE, ASKED, OWNED, REPEATED, DUE, KEPT}, [
+    ("a request that is parked and declined", {*LATE, KEPT}, [
         ("park",), *says(1, FIRST), *says(2, added(8, 1)), ("decline", 0), *says(3, FIRST), ("close", 3)]),
-    ("two that are parked, one declined and one answered", {BEFORE, ASKED, OWNED, REPEATED, UNANSWERED, DUE}, [
+    ("two that are parked, one declined and one answered", LATE, [
         ("park",), ("park",), ("park",), *says(1, FIRST, OTHER), *says(2, added(7, 2)), ("decline", 1),
         *says(3, added(8, 2), added(9, 1)), ("answer", 0), ("answer", 2), *says(4, added(10, 2))]),
 ]

@@ -5,12 +5,11 @@ script with each of them, up to the first number that has none.
 """
 from tests.engine_model import NOT_NOW, Engine, GivenUp, Left, Lost, NotParked
 
-# how a play can fail: before a message is handled, or a piece is taken whole; a request is not asked for, or not
-# performed or parked; an outcome is kept, and its reply not written; who is declined is lost; no goodbye is said; who
-# repeats what is parked is lost; what is parked is not performed; who waits for it is lost; or a connection isn't opened,
-# or not closed
-BEFORE, ASKED, OWNED, KEPT, DECLINED, SILENT, REPEATED, UNANSWERED, DUE, OPENED, CLOSED = (
-    "before", "asked", "owned", "kept", "declined", "silent", "repeated", "unanswered", "due", "opened", "closed")
+# how a play can fail: before a message is handled, or a piece is taken whole; a request is not asked for, or not parked;
+# an outcome is kept, and its reply not written; who is declined is lost; no goodbye is said; who repeats what is parked
+# is lost; who waits for it is lost; or a connection isn't opened, or not closed. The counter performs without memory
+BEFORE, ASKED, PARKED, KEPT, DECLINED, SILENT, REPEATED, DUE, OPENED, CLOSED = (
+    "before", "asked", "parked", "kept", "declined", "silent", "repeated", "due", "opened", "closed")
 
 
 class NoMemory(Lost):
@@ -30,7 +29,7 @@ class Short(Engine):
 
     def __init__(self, terms, streams, places, number):
         super().__init__(terms, streams, places)
-        self.left, self.failed, self.is_told = number, None, False
+        self.left, self.failed = number, None
 
     def fails(self, how):
         """Whether memory runs out here."""
@@ -52,14 +51,9 @@ class Short(Engine):
         if line.startswith("repeat"):
             if self.fails(REPEATED):
                 raise NoMemory(is_new=True)
-        elif self.fails(ASKED if line.startswith("ask") else OWNED):
+        elif self.fails(ASKED if line.startswith("ask") else PARKED):
             raise GivenUp
         super().note(line)
-
-    def apply(self, call):
-        if self.fails(UNANSWERED if self.is_told else OWNED):
-            raise GivenUp
-        return super().apply(call)
 
     def answer_now(self, connection, call):
         try:
@@ -84,11 +78,6 @@ class Short(Engine):
         if self.is_going(number) and self.fails(CLOSED):
             return b"", f"memory {number} 0 0"
         return super().close(number)
-
-    def answer(self, number):
-        self.is_told = True
-        super().answer(number)
-        self.is_told = False
 
     def tell(self, number, asked, outcome):
         if self.fails(DUE):
