@@ -106,7 +106,7 @@ def clauses_at(file, first):
         clause = CLAUSE.match(line)
         if clause:
             found.append(clause.groups())
-        elif re.match(r"\s*(\{|\}|///|#\[|(pub(\(\w+\))? )?fn )", line) or not line.strip():
+        elif re.match(r"\s*(\{|\}$|///|#\[|(pub(\(\w+\))? )?fn )", line) or not line.strip():
             break
     return found
 

@@ -4,6 +4,7 @@
     tests/wrong_bodies.py CRATE [EDIT..]    those of a crate, or these
     tests/wrong_bodies.py --turns           those that are due, within a budget of processor time
     tests/wrong_bodies.py --all             all
+    tests/wrong_bodies.py --compile CRATE.. those that do not compile, of all in these crates; nothing is proved
     python3 -m unittest tests.wrong_bodies -k WORD    those with a word in their name or their crate's
 
 tests/edits.py says how an edit is written. A check of a crate reports each function apart, and the proof of one rests
@@ -72,6 +73,8 @@ FEW = 8
 MEMORY = 3 << 30
 # the most edits of a round: beyond, each further one saves little
 MOST = 24
+# a name that no function has: a check of it alone ends once the crate is compiled
+NO_FUNCTION = "no_such_function"
 
 # what each edit takes beyond a check of its crate from nothing, in seconds of processor time
 EACH = {"cdr_core": 8, "ior_core": 5, "giop_link": 8, "ft_tcp": 8, "counter": 8, "giop_frames": 14, "ft_ends": 14,
@@ -177,8 +180,8 @@ class Trials:
             self.note(edit, found, is_known=True)
         return found is not None
 
-    def check(self, crate, texts, seed, jobs=1):
-        """Checks a copy of a crate with these texts in place of its own, over the work kept in a folder."""
+    def check(self, crate, texts, *flags, jobs=1):
+        """Checks a copy of a crate with these texts in place of its own."""
         with tempfile.TemporaryDirectory(dir=self.room) as copy:
             for part in self.kit.PARTS:
                 if os.path.isdir(f"{crate.folder}/{part}"):
@@ -186,7 +189,7 @@ class Trials:
             for path, text in texts.items():
                 with open(f"{copy}/{path}", "w", encoding="utf-8") as file:
                     file.write(text)
-            words = [self.kit.RATTLE, "check", *crate.words(["--jobs", str(jobs)], keeps=False), "--incremental", seed]
+            words = [self.kit.RATTLE, "check", *crate.words(["--jobs", str(jobs)], keeps=False), *flags]
             with open(f"{copy}/said", "w+", encoding="utf-8", errors="replace") as said:
                 run = subprocess.Popen([*self.guard, *words], cwd=copy, stdin=subprocess.DEVNULL, stdout=said,
                                        stderr=subprocess.STDOUT)
@@ -236,7 +239,7 @@ class Trials:
         left = rounds[1:] + again
         if not os.path.isdir(seed) and left:
             # (an edit of that round did not compile, so that its check kept nothing)
-            self.check(crate, {}, seed, jobs)
+            self.check(crate, {}, "--incremental", seed, jobs=jobs)
             os.makedirs(seed, exist_ok=True)
 
         def one(edits):
@@ -271,7 +274,7 @@ class Trials:
         texts = {}
         for edit in edits:
             texts = edit.applied(texts)[0]
-        verdict = self.check(crate, texts, seed, jobs)
+        verdict = self.check(crate, texts, "--incremental", seed, jobs=jobs)
         if not verdict.ended and len(edits) > 1:
             alone = [edit for edit in edits if verdict.blames(edit)] or edits
             others = [edit for edit in edits if edit not in alone]
@@ -285,6 +288,20 @@ class Trials:
                 self.note(edit, result)
         return again
 
+    def uncompiled(self, crate, edits):
+        """Of edits that can be made together those that do not compile, each with what is said of it."""
+        texts = {}
+        for edit in edits:
+            texts = edit.applied(texts)[0]
+        said = self.check(crate, texts, "--only", NO_FUNCTION).said
+        if f"no function `{NO_FUNCTION}`" in said:
+            return []
+        if len(edits) > 1:
+            half = len(edits) // 2
+            return self.uncompiled(crate, edits[:half]) + self.uncompiled(crate, edits[half:])
+        lines = [line for line in said.split("\n") if "error" in line] or said.split("\n")[-2:]
+        return [(edits[0], short(lines[0]))]
+
     def judged(self, edit, verdict, is_alone):
         """What a check says of an edit, or None where the edit is to be tried alone."""
         if verdict.ended:
@@ -296,7 +313,7 @@ class Trials:
         return Result(UNSURE, f"the check ended by signal {-verdict.status}") if killed else Result(BAD, short(said[0]))
 
 
-def planned(edits):
+def planned(edits, most=MOST):
     """The edits in rounds, in which no function and no cycle of calls is changed twice; one that changes no function,
     as a constant, or several, is a round of its own."""
     rounds, lone = [], []
@@ -307,7 +324,7 @@ def planned(edits):
             continue
         place = changed.pop()
         for members in rounds:
-            if place not in members and len(members) < MOST and applied([*members.values(), edit]):
+            if place not in members and len(members) < most and applied([*members.values(), edit]):
                 members[place] = edit
                 break
         else:
@@ -425,30 +442,49 @@ def tried(trials, wanted):
         shutil.rmtree(trials.room, ignore_errors=True)
 
 
+def compiled(trials, wanted):
+    """Says which edits do not compile, and returns the status."""
+    try:
+        if not have_libraries([trials.crates[name] for name, _ in wanted], trials.since):
+            return 1
+        rounds = [(trials.crates[name], some) for name, edits in wanted for some in planned(edits, len(edits))]
+        with ThreadPoolExecutor(trials.lanes) as pool:
+            found = [*itertools.chain(*pool.map(lambda it: trials.uncompiled(*it), rounds))]
+    finally:
+        shutil.rmtree(trials.room, ignore_errors=True)
+    for edit, said in found:
+        print(f"{edit.crate}/{edit.name}: {BAD}: {said}")
+    print(f"{sum(len(edits) for _, edits in wanted) - len(found)} passed, {len(found)} failed")
+    return 1 if found else 0
+
+
 def all_edits():
     return {crate: edits_of(crate) for crate in bodies.crates()}
 
 
 def main():
-    usage = "tests/wrong_bodies.py [--anew] [--write] [--since SECONDS] [--jobs N] --turns | --all | CRATE [EDIT..]"
+    usage = "tests/wrong_bodies.py [--anew] [--write] [--since SECONDS] [--jobs N] --turns | --all | --compile CRATE.. | CRATE [EDIT..]"
     parser = argparse.ArgumentParser(usage=usage)
     parser.add_argument("--anew", action="store_true")
     parser.add_argument("--write", action="store_true")
     parser.add_argument("--turns", action="store_true")
     parser.add_argument("--all", action="store_true")
+    parser.add_argument("--compile", nargs="+")
     parser.add_argument("--since", type=float)
     parser.add_argument("--jobs", type=int)
     parser.add_argument("crate", nargs="?")
     parser.add_argument("edits", nargs="*")
     options = parser.parse_args()
-    if options.turns + options.all + bool(options.crate) != 1:
-        parser.error("one of --turns, --all and a crate")
+    if options.turns + options.all + bool(options.compile) + bool(options.crate) != 1:
+        parser.error("one of --turns, --all, --compile and a crate")
     if shutil.which("rt") is None:
         sys.exit("rt, the command of the Rattle toolchain, is not on the path")
     kit = load_kit()
     budget = BUDGET if options.turns else None
     trials = Trials(kit, Refusals(kit, options.anew), budget, options.since, options.jobs, options.write)
     edits = all_edits()
+    if options.compile:
+        return compiled(trials, [(crate, edits[crate]) for crate in options.compile])
     wanted = chosen(options, edits, trials.crates)
     if options.write:
         wanted = [(crate, [it for it in some if it.refused_by is None]) for crate, some in wanted]
