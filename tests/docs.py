@@ -23,7 +23,7 @@ SIZES = {
     "docs/ARCHITECTURE.md": 10_000,
     "docs/TESTING.md": 13_500,
 }
-BY_HAND = 282_000
+BY_HAND = 284_000
 PAGES_OF_CRATES = 26_000
 # the most lines of the list that a reader begins with, and of a source
 FIRST_LIST = 450
