@@ -1,8 +1,11 @@
-"""The kit's own words for a check or a build: those with which `rt` calls the prover."""
+"""The kit's own words for a check or a build, those with which `rt` calls the prover; and what is kept of them."""
+import hashlib
 import importlib.util
 import os
 import subprocess
 import sys
+
+from scripts.crates import ROOT
 
 
 def load_kit():
@@ -26,3 +29,27 @@ def are_of_run(crates, since):
         return os.path.isfile(form) and not is_kept and os.stat(form).st_ctime >= since
 
     return all(map(is_of_run, crates))
+
+
+def cache():
+    """Where it is kept what earlier runs on this machine came to."""
+    return os.path.join(os.environ.get("XDG_CACHE_HOME") or os.path.expanduser("~/.cache"), "lemonrudder")
+
+
+def files_below(kit, crate):
+    """The sources of a crate and of those below."""
+    return [file for it in [crate, *crate.below()] for file in kit.files_of(it.folder)]
+
+
+def sum_of(kit, crate, scripts):
+    """A sum of the kit, of those sources and of these scripts."""
+    total = hashlib.sha256(repr([it.said for it in [crate, *crate.below()]]).encode())
+    for file in [f"{kit.KIT}/WHAT", *scripts, *files_below(kit, crate)]:
+        with open(file, "rb") as it:
+            total.update(repr((os.path.relpath(file, ROOT), it.read())).encode())
+    return total.hexdigest()
+
+
+def are_older(files, moment):
+    """Whether all files were last changed before a moment."""
+    return all(os.stat(file).st_mtime < moment for file in files)

@@ -4,13 +4,15 @@ The rule of versions.  What was built with one version of the library may run wi
 is not older. A series is the versions of one major number; before 1.0, those of one minor number. So 0.1.3 stands in
 for 0.1.2, as neither 0.1.1 nor 0.2.0 does, and 1.3.0 stands in for 1.2.5.
 """
+import contextlib
 import os
 import shutil
 import subprocess
 import tempfile
+import time
 
 from scripts.crates import ROOT
-from scripts.kit import are_of_run, load_kit
+from scripts.kit import are_of_run, are_older, cache, files_below, load_kit, sum_of
 
 LIBRARY = "lemonrudder"
 EMBED = os.path.join(ROOT, "embed")
@@ -60,20 +62,43 @@ def run(*words):
     subprocess.run(words, check=True)
 
 
-def build_over_gate(since):
-    """Builds the archive over the libraries that the gate left which began at a moment; answers whether that succeeded."""
-    kit = load_kit()
-    crate = next(it for it in kit.crates_below(ROOT) if it.name == LIBRARY)
-    if not are_of_run(crate.below(), since):
-        print(f"the gate left no libraries below {LIBRARY}")
-        return False
-    os.makedirs(os.path.dirname(ARCHIVE), exist_ok=True)
+def build(kit, crate):
+    """Proves the crate and makes the archive of it; answers whether that succeeded."""
     words = [*crate.words(["--jobs", str(min(4, len(os.sched_getaffinity(0))))], keeps=False), "--toolchain", f"{kit.KIT}/toolchain"]
     ran = subprocess.run([*kit.guarded(), kit.RATTLE, "build", *words, "--backend", "llvm", "-o", ARCHIVE], cwd=crate.folder,
                          stdin=subprocess.DEVNULL, stdout=subprocess.PIPE, stderr=subprocess.STDOUT, text=True, errors="replace")
     if ran.returncode:
         print("\n".join(ran.stdout.split("\n")[-30:]))
     return ran.returncode == 0
+
+
+def put_whole(source, to):
+    """Copies a file to a place where others may read: they find it whole, or what was there."""
+    with tempfile.NamedTemporaryFile("wb", dir=os.path.dirname(to), delete=False) as file, open(source, "rb") as it:
+        shutil.copyfileobj(it, file)
+    os.replace(file.name, to)
+
+
+def build_over_gate(since, is_anew=False):
+    """Builds the archive over the libraries that the gate left which began at a moment, or takes that which an earlier
+    run on this machine built of the same files, but anew; answers whether that succeeded."""
+    kit, began = load_kit(), time.time()
+    crate = next(it for it in kit.crates_below(ROOT) if it.name == LIBRARY)
+    if not are_of_run(crate.below(), since):
+        print(f"the gate left no libraries below {LIBRARY}")
+        return False
+    kept = os.path.join(cache(), "archives", sum_of(kit, crate, [os.path.abspath(__file__)]))
+    os.makedirs(os.path.dirname(ARCHIVE), exist_ok=True)
+    if not is_anew and os.path.isfile(kept):
+        print("an earlier run on this machine proved and built it of the same files")
+        put_whole(kept, ARCHIVE)
+        return True
+    is_built = build(kit, crate)
+    if is_built and are_older(files_below(kit, crate), began):
+        with contextlib.suppress(OSError):
+            os.makedirs(os.path.dirname(kept), mode=0o700, exist_ok=True)
+            put_whole(ARCHIVE, kept)
+    return is_built
 
 
 def make_archive(archive, folder):

@@ -49,7 +49,7 @@ from concurrent.futures import FIRST_COMPLETED, ThreadPoolExecutor, wait
 ROOT = os.path.dirname(os.path.dirname(os.path.abspath(__file__)))
 sys.path.insert(0, ROOT)
 from scripts.crates import SECONDS
-from scripts.kit import are_of_run, load_kit
+from scripts.kit import are_of_run, are_older, cache, files_below, load_kit, sum_of
 from tests import edits as bodies
 from tests import verdicts
 from tests.edits import changed_by, edits_of, text_of
@@ -86,23 +86,14 @@ class Refusals:
     """What earlier runs on this machine refused: a file for each edit, by the sum of all that its check reads."""
 
     def __init__(self, kit, anew):
-        cache = os.environ.get("XDG_CACHE_HOME") or os.path.expanduser("~/.cache")
-        self.at = os.path.join(cache, "lemonrudder", "refused")
+        self.at = os.path.join(cache(), "refused")
         self.kit, self.anew, self.began, self.sums = kit, anew, time.time(), {}
 
-    def files_of(self, crate):
-        """The sources of a crate and of those below."""
-        return [file for it in [crate, *crate.below()] for file in self.kit.files_of(it.folder)]
-
     def sum_of(self, crate):
-        """A sum of the kit, of those sources, and of what judges here."""
+        """A sum of the kit, of the sources of a crate and of those below, and of what judges here."""
         if crate.name not in self.sums:
-            total = hashlib.sha256(repr([it.said for it in [crate, *crate.below()]]).encode())
             judges = [os.path.abspath(it.__file__) for it in (sys.modules[__name__], bodies, verdicts)]
-            for file in [f"{self.kit.KIT}/WHAT", *judges, *self.files_of(crate)]:
-                with open(file, "rb") as it:
-                    total.update(repr((os.path.relpath(file, ROOT), it.read())).encode())
-            self.sums[crate.name] = total.hexdigest()
+            self.sums[crate.name] = sum_of(self.kit, crate, judges)
         return self.sums[crate.name]
 
     def file_of(self, crate, edit):
@@ -124,7 +115,7 @@ class Refusals:
         if result.kind != REFUSED:
             return
         with contextlib.suppress(OSError):
-            if any(os.stat(file).st_mtime >= self.began for file in self.files_of(crate)):
+            if not are_older(files_below(self.kit, crate), self.began):
                 return
             os.makedirs(self.at, mode=0o700, exist_ok=True)
             with tempfile.NamedTemporaryFile("w", dir=self.at, delete=False, encoding="utf-8") as file:
