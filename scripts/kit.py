@@ -42,11 +42,11 @@ def files_below(kit, crate):
 
 
 def sum_of(kit, crate, scripts):
-    """A sum of the kit, of those sources and of these scripts."""
+    """A sum of the kit, of those sources and of these scripts, which is the same in each checkout."""
     total = hashlib.sha256(repr([it.said for it in [crate, *crate.below()]]).encode())
-    for file in [f"{kit.KIT}/WHAT", *scripts, *files_below(kit, crate)]:
+    for file, top in [(f"{kit.KIT}/WHAT", kit.KIT), *((file, ROOT) for file in (*scripts, *files_below(kit, crate)))]:
         with open(file, "rb") as it:
-            total.update(repr((os.path.relpath(file, ROOT), it.read())).encode())
+            total.update(repr((os.path.relpath(file, top), it.read())).encode())
     return total.hexdigest()
 
 
