@@ -1,8 +1,13 @@
-"""Tests what the other tests stand on: parts and their choice, counts, and how a script is made smaller."""
+"""Tests what the other tests stand on: parts and their choice, counts, how a script is made smaller, and what is kept."""
+import contextlib
 import io
 import os
+import tempfile
+import types
 import unittest
+from unittest import mock
 
+from scripts import kit, library
 from tests import base, programs, runner
 from tests.smaller import smallest
 
@@ -104,3 +109,68 @@ class Smaller(unittest.TestCase):
                                ("`a.b` c", "`a.b` c")):
             with self.subTest(text):
                 self.assertEqual(base.first_sentence(text), sentence)
+
+
+class Kept(unittest.TestCase):
+    """The archive that an earlier run built."""
+
+    def setUp(self):
+        self.room = self.enterContext(tempfile.TemporaryDirectory())
+        self.archive, self.built = os.path.join(self.room, "out", "lib.a"), 0
+        self.write("src/lib.rt", "one")
+        self.write("WHAT", "a kit")
+        crate = types.SimpleNamespace(name=library.LIBRARY, said={}, folder=self.room, below=lambda: [])
+        stand_in = types.SimpleNamespace(KIT=self.room, crates_below=lambda _: [crate],
+                                         files_of=lambda folder: [os.path.join(folder, "src", "lib.rt")])
+        for where, name, value in ((library, "ARCHIVE", self.archive), (library, "build", self.build),
+                                   (library, "load_kit", lambda: stand_in)):
+            self.enterContext(mock.patch.object(where, name, value))
+        self.enterContext(mock.patch.dict(os.environ, {"XDG_CACHE_HOME": os.path.join(self.room, "cache")}))
+
+    def write(self, name, text):
+        """Writes a file that is older than what runs."""
+        path = os.path.join(self.room, name)
+        os.makedirs(os.path.dirname(path), exist_ok=True)
+        with open(path, "w", encoding="utf-8") as file:
+            file.write(text)
+        os.utime(path, (1, 1))
+
+    def build(self, *_):
+        """Stands in for the build: the archive holds how many there were."""
+        self.built += 1
+        self.write("out/lib.a", str(self.built))
+        return True
+
+    def made(self, **how):
+        """What the archive holds once it is made."""
+        with contextlib.redirect_stdout(io.StringIO()):
+            self.assertTrue(library.build_over_gate(0, **how))
+        with open(self.archive, encoding="utf-8") as file:
+            return file.read()
+
+    def test_same(self):
+        """Of the same files it is taken, but anew."""
+        self.assertEqual([self.made(), self.made(), self.made(is_anew=True), self.made()], ["1", "1", "2", "2"])
+
+    def test_other(self):
+        """Of another source, or by another kit, it is not."""
+        self.made()
+        for number, name in enumerate(("src/lib.rt", "WHAT"), 2):
+            self.write(name, "two")
+            self.assertEqual([self.made(), self.made()], [str(number)] * 2)
+
+    def test_changed(self):
+        """One whose sources changed since the run began is not kept."""
+        os.utime(os.path.join(self.room, "src", "lib.rt"))
+        with mock.patch.object(library.time, "time", lambda: 2.0):
+            self.assertEqual([self.made(), self.made()], ["1", "2"])
+
+    def test_checkouts(self):
+        """The sum is the same in each checkout."""
+        sums = set()
+        for top in ("some", "some/other"):
+            self.write(f"{top}/src/lib.rt", "one")
+            crate = types.SimpleNamespace(said={}, folder=os.path.join(self.room, top), below=lambda: [])
+            with mock.patch.object(kit, "ROOT", crate.folder):
+                sums.add(kit.sum_of(library.load_kit(), crate, []))
+        self.assertEqual(len(sums), 1)
