@@ -191,6 +191,7 @@ impl<C: Catalogue + Drop> Engine<C> {
         ensures ended { AreEndings self.old self.new }
     {
         if let Some(parked) = self.parked.requests.get_mut(&number) {
+            // (an assignment would let the old one go by a branch for each kind of value)
             drop(mem::replace(&mut parked.outcome, Some(outcome)));
             count(&mut self.keeper.counts.settled);
         }
