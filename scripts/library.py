@@ -74,9 +74,8 @@ def build(kit, crate):
 
 def put_whole(source, to):
     """Copies a file to a place where others may read: they find it whole, or what was there."""
-    with tempfile.NamedTemporaryFile("wb", dir=os.path.dirname(to), delete=False) as file, open(source, "rb") as it:
-        shutil.copyfileobj(it, file)
-    os.replace(file.name, to)
+    with tempfile.TemporaryDirectory(dir=os.path.dirname(to)) as room:
+        os.replace(shutil.copy(source, room), to)
 
 
 def build_over_gate(since, is_anew=False):
