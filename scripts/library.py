@@ -79,8 +79,8 @@ def put_whole(source, to):
 
 
 def build_over_gate(since, is_anew=False):
-    """Builds the archive over the libraries that the gate left which began at a moment, or takes that which an earlier
-    run on this machine built of the same files, but anew; answers whether that succeeded."""
+    """Builds the archive over the libraries that the gate left which began at a moment, or, unless it is to be built
+    anew, takes that which an earlier run on this machine built of the same files; answers whether that succeeded."""
     kit, began = load_kit(), time.time()
     crate = next(it for it in kit.crates_below(ROOT) if it.name == LIBRARY)
     if not are_of_run(crate.below(), since):
