@@ -6,8 +6,8 @@ usage: measure_server.py OURS PLAIN [--rounds 5] [--count 1000000] [--no-instruc
 OURS is the program of crates/benches, PLAIN that of bench/plain.rs. First both play the streams of tests/compare_server.py.
 
 The streams that are timed have COUNT messages of a kind: `add` is a Request of 52 octets without FT_REQUEST that is
-performed, `repeat` one of 84 octets of which all but the first repeat the first, `locate` a LocateRequest of 25 octets, each
-first a piece of its own. Each time is processor time, the best of so many rounds, in which the programs take turns, with the
+performed, `repeat` one of 84 octets of which all but the first repeat the first, `locate` a LocateRequest of 25 octets, of
+which there are twice as many; each first a piece of its own. Each time is processor time, the best of so many rounds, in which the programs take turns, with the
 least and the greatest ratio of a round. The time of making the stream is left out: it is that of the same program with pieces
 of 0 octets. Instructions are those that callgrind counts for a message.
 
@@ -60,6 +60,11 @@ APART = 1_000_000
 def words_of(engine, count, size, kind, *kept):
     """The words of a program."""
     return engine + [str(count), str(size), kind, *map(str, kept)]
+
+
+def count_of(given, kind):
+    """How many messages of a kind are timed: a locate takes little."""
+    return 2 * given.count if kind == "locate" else given.count
 
 
 def due(count, size, kind, entries=1024, share=1024):
@@ -136,12 +141,13 @@ def net(after, before, count):
 
 def streams(engines, timed, given):
     """Prints what a message costs in a stream of one kind."""
-    print(f"{'kind':>7} {'piece':>6}   seconds of {given.count}, ours, plain, ratio; instructions a message, ours, plain, ratio")
+    print(f"{'kind':>7} {'piece':>6}   seconds of {given.count}, of locates of twice as many, ours, plain, ratio; "
+          "instructions a message, ours, plain, ratio")
     for kind in KINDS:
         made = None if given.no_instructions else counted(engines, MORE, 0, kind)
         for size in sizes_of(kind):
             title = f"{kind:>7} {size:>6}"
-            line = timing(title, timed.net(given.count, size, kind))
+            line = timing(title, timed.net(count_of(given, kind), size, kind))
             if made:
                 line += "   " + pair(title, net(counted(engines, MORE, size, kind), made, MORE), "8.0f")
             print(f"{title}   {line}", flush=True)
@@ -216,7 +222,7 @@ def main():
     for _ in range(given.rounds):
         for kind in KINDS:
             for size in [0, *sizes_of(kind)]:
-                timed.take(given.count, size, kind)
+                timed.take(count_of(given, kind), size, kind)
         for kind, *kept in KEYED:
             for size in (0, 84):
                 timed.take(given.count, size, kind, *kept)
