@@ -7,9 +7,9 @@ OURS is the program of crates/benches, PLAIN that of bench/plain.rs. First both 
 
 The streams that are timed have COUNT messages of a kind: `add` is a Request of 52 octets without FT_REQUEST that is
 performed, `repeat` one of 84 octets of which all but the first repeat the first, `locate` a LocateRequest of 25 octets, of
-which there are twice as many; each first a piece of its own. Each time is processor time, the best of so many rounds, in which the programs take turns, with the
-least and the greatest ratio of a round. The time of making the stream is left out: it is that of the same program with pieces
-of 0 octets. Instructions are those that callgrind counts for a message.
+which there are twice as many; each first a piece of its own. Each time is processor time, the best of so many rounds, in
+which the programs take turns, with the least and the greatest ratio of a round. The time of making the stream is left out:
+it is that of the same program with pieces of 0 octets. Instructions are those that callgrind counts for a message.
 
 Of the other kinds each Request has a key of its own and is a piece of its own. Of `rising` and `scattered` it has 84 octets,
 and all are one client's; of `clients` and `together` it has 116, and each is of a client of its own, whose id has 32. The
