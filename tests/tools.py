@@ -119,12 +119,11 @@ class Kept(unittest.TestCase):
         self.archive, self.built = os.path.join(self.room, "out", "lib.a"), 0
         self.write("src/lib.rt", "one")
         self.write("WHAT", "a kit")
-        crate = types.SimpleNamespace(name=library.LIBRARY, said={}, folder=self.room, below=lambda: [])
-        stand_in = types.SimpleNamespace(KIT=self.room, crates_below=lambda _: [crate],
-                                         files_of=lambda folder: [os.path.join(folder, "src", "lib.rt")])
-        for where, name, value in ((library, "ARCHIVE", self.archive), (library, "build", self.build),
-                                   (library, "load_kit", lambda: stand_in)):
-            self.enterContext(mock.patch.object(where, name, value))
+        crate = types.SimpleNamespace(name=library.CRATE, said={}, folder=self.room, below=lambda: [])
+        self.kit = types.SimpleNamespace(KIT=self.room, files_of=lambda folder: [os.path.join(folder, "src", "lib.rt")])
+        self.gate = types.SimpleNamespace(kit=self.kit, crates={library.CRATE: crate})
+        for name, value in (("ARCHIVE", self.archive), ("build", self.build)):
+            self.enterContext(mock.patch.object(library, name, value))
         self.enterContext(mock.patch.dict(os.environ, {"XDG_CACHE_HOME": os.path.join(self.room, "cache")}))
 
     def write(self, name, text):
@@ -144,7 +143,7 @@ class Kept(unittest.TestCase):
     def made(self, **how):
         """What the archive holds once it is made."""
         with contextlib.redirect_stdout(io.StringIO()):
-            self.assertTrue(library.build_over_gate(0, **how))
+            self.assertTrue(library.build_over_gate(self.gate, **how))
         with open(self.archive, encoding="utf-8") as file:
             return file.read()
 
@@ -170,7 +169,7 @@ class Kept(unittest.TestCase):
         sums = set()
         for top in ("some", "some/other"):
             self.write(f"{top}/src/lib.rt", "one")
-            crate = types.SimpleNamespace(said={}, folder=os.path.join(self.room, top), below=lambda: [])
-            with mock.patch.object(kit, "ROOT", crate.folder):
-                sums.add(kit.sum_of(library.load_kit(), crate, []))
+            crate = types.SimpleNamespace(name="a", said={}, folder=os.path.join(self.room, top, "a"), below=lambda: [])
+            self.write(f"{top}/a/src/lib.rt", "one")
+            sums.add(kit.sum_of(self.kit, crate))
         self.assertEqual(len(sums), 1)
