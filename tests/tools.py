@@ -2,12 +2,15 @@
 import contextlib
 import io
 import os
+import subprocess
+import sys
 import tempfile
+import time
 import types
 import unittest
 from unittest import mock
 
-from scripts import kit, library
+from scripts import kit, lanes, library
 from tests import base, programs, runner
 from tests.smaller import smallest
 
@@ -109,6 +112,72 @@ class Smaller(unittest.TestCase):
                                ("`a.b` c", "`a.b` c")):
             with self.subTest(text):
                 self.assertEqual(base.first_sentence(text), sentence)
+
+
+class Lanes(unittest.TestCase):
+    """Parts of a run, side by side."""
+
+    def setUp(self):
+        self.room = self.enterContext(tempfile.TemporaryDirectory())
+        self.enterContext(mock.patch.dict(os.environ, {"XDG_CACHE_HOME": self.room}))
+
+    def run_of(self, *parts, lanes_at_once=2):
+        """A run of parts, each a name, a line of shell and those that it waits for, and what it said."""
+        noted = os.path.join(self.room, "noted")
+        with open(noted, "w", encoding="utf-8") as file:
+            file.write("one 5\n")
+        made = [lanes.Part(name, ["sh", "-c", line], tuple(after), makes=name.startswith("make")) for name, line, *after in parts]
+        run, said = lanes.Run(made, lanes.Took(noted), lanes_at_once), io.StringIO()
+        with contextlib.redirect_stdout(said):
+            run.is_well = run.run()
+        return run, said.getvalue()
+
+    def test_counts(self):
+        """What passed and failed, by each part's last line; a part that only makes something counts nothing."""
+        run, said = self.run_of(("one", "echo 3 passed, 0 failed; echo not run: a: this needs b"), ("make", "exit 0"),
+                                ("two", "echo 4 passed, 2 failed; echo a reason; exit 1"))
+        self.assertEqual((run.is_well, run.count(), run.not_run), (False, (7, 2), ["not run: a: this needs b"]))
+        self.assertIn("== two\n4 passed, 2 failed\na reason\n", said)
+        self.assertEqual(len([line for line in said.splitlines() if "about" in line]), 3)
+
+    def test_order(self):
+        """A part waits for those that it stands on, and is not run where one of these failed."""
+        run, said = self.run_of(("three", "exit 9", "two"), ("two", "exit 9", "make it"), ("make it", "echo why; exit 1"))
+        self.assertEqual((run.is_well, run.count()), (False, (0, 3)))
+        self.assertIn("make it failed, and this stands on it", said)
+
+    def test_nothing(self):
+        """A part that ran nothing is a failure, unless it lacks a tool."""
+        for line, count in (("exit 0", 1), ("echo 0 passed, 0 failed", 1), ("echo 0 passed, 0 failed; echo 'not run: x: this needs y'", 0),
+                            ("echo 5 passed, 0 failed; exit 1", 1)):
+            with self.subTest(line):
+                self.assertEqual(self.run_of(("one", line))[0].count()[1], count)
+
+    def test_took(self):
+        """What a part took is known to the next run on this machine, and else by what is noted."""
+        run, _ = self.run_of(("one", "echo 1 passed, 0 failed"), ("two", "exit 1"))
+        later = lanes.Took(os.path.join(self.room, "noted"))
+        self.assertLess(later.of(run.parts[0]), 5)
+        self.assertEqual(later.of(run.parts[1]), lanes.UNKNOWN)
+
+    def test_interrupted(self):
+        """Told to end, it ends what it runs, and what that started."""
+        pids = os.path.join(self.room, "pids")
+        program = f"from tests.tools import Lanes\nit = Lanes()\nit.setUp()\nit.run_of(('one', 'sleep 50 & echo $! >{pids}; wait'))"
+        with subprocess.Popen([sys.executable, "-c", program], cwd=programs.ROOT, stderr=subprocess.DEVNULL) as run:
+            for _ in range(600):
+                if os.path.exists(pids) and os.path.getsize(pids):
+                    break
+                time.sleep(0.05)
+            run.terminate()
+            self.assertEqual(run.wait(timeout=20), 143)
+        with open(pids, encoding="ascii") as file:
+            path = f"/proc/{file.read().strip()}"
+        for _ in range(200):
+            if not os.path.exists(path):
+                return
+            time.sleep(0.05)
+        self.fail("what it started runs on")
 
 
 class Kept(unittest.TestCase):
