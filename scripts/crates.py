@@ -97,7 +97,7 @@ class Build:
                 noted = dict(line.split() for line in lines)
         except (OSError, ValueError):
             return False
-        if not os.access(self.path, os.X_OK) or noted != {place: sum_of(place) for place in self.places()}:
+        if not os.path.isfile(self.path) or noted != {place: sum_of(place) for place in self.places()}:
             return False
         with contextlib.suppress(OSError):
             os.utime(self.noted, (since, since))

@@ -11,7 +11,7 @@ import subprocess
 import tempfile
 import time
 
-from scripts.crates import ROOT
+from scripts.crates import ROOT, Build
 from scripts.kit import are_older, cache, files_below, sum_of
 
 LIBRARY = "lemonrudder"
@@ -20,6 +20,7 @@ IDL = os.path.join(ROOT, "idl", LIBRARY)
 # the crate that is built into an archive
 CRATE = "lemonrudder"
 ARCHIVE = os.path.join(ROOT, "crates", CRATE, "out", f"lib{CRATE}.a")
+BUILD = Build(ARCHIVE, CRATE)
 TOOLS = ("cc", "ar", "ld", "objcopy")
 # what pkg-config and CMake read: where it is put below lib/, and what it is made of, in embed/
 PACKAGES = {
@@ -96,13 +97,14 @@ def build_over_gate(gate, is_anew=False):
     if not is_anew and os.path.isfile(kept):
         print("the archive is that which an earlier run on this machine built of the same files", flush=True)
         put_whole(kept, ARCHIVE)
-        return True
-    is_built = build(gate.kit, crate)
-    if is_built and are_older(files_below(gate.kit, crate), began):
+    elif not build(gate.kit, crate):
+        return False
+    elif are_older(files_below(gate.kit, crate), began):
         with contextlib.suppress(OSError):
             os.makedirs(os.path.dirname(kept), mode=0o700, exist_ok=True)
             put_whole(ARCHIVE, kept)
-    return is_built
+    BUILD.note(gate.since)
+    return True
 
 
 def make_archive(archive, folder, source):

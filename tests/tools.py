@@ -190,8 +190,8 @@ class Kept(unittest.TestCase):
         self.write("WHAT", "a kit")
         crate = types.SimpleNamespace(name=library.CRATE, said={}, folder=self.room, below=lambda: [])
         self.kit = types.SimpleNamespace(KIT=self.room, files_of=lambda folder: [os.path.join(folder, "src", "lib.rt")])
-        self.gate = types.SimpleNamespace(kit=self.kit, crates={library.CRATE: crate})
-        for name, value in (("ARCHIVE", self.archive), ("build", self.build)):
+        self.gate = types.SimpleNamespace(kit=self.kit, crates={library.CRATE: crate}, since=0)
+        for name, value in (("ARCHIVE", self.archive), ("build", self.build), ("BUILD", mock.Mock())):
             self.enterContext(mock.patch.object(library, name, value))
         self.enterContext(mock.patch.dict(os.environ, {"XDG_CACHE_HOME": os.path.join(self.room, "cache")}))
 
