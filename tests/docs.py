@@ -140,7 +140,7 @@ def clauses_at(file: str, line: int) -> list[tuple[str, str]]:
 def wrong_bodies(crate: str) -> list[str]:
     """The names of a crate's wrong bodies: those in its files, and those that are a file of their own."""
     named = [name for file in files(".edits") if file.startswith(f"crates/{crate}/wrong_bodies/")
-             for name in re.findall(r"^  (?:must-fail/)?(\w+): ", text_of(file), re.M) if name != "none"]
+             for name in re.findall(r"^  (?:always/)?(\w+): ", text_of(file), re.M) if name != "none"]
     alone = [os.path.basename(file)[:-5] for file in files(".edit") if file.startswith(f"crates/{crate}/")]
     return named or alone
 

@@ -2,8 +2,8 @@
 use Rattle.std.proofs.Common.{◌≡◌, ◌≢◌, ℕ, zero, suc, List, [], ◌∷◌, ◌++◌, map, take, Option, Some, Ok, Vec, Global, refl, sym, ap, subst, ◌∙◌}
 use Rattle.std.proofs.lemmas.List.{map-append}
 use Rattle.ft_orb.specs.Wires.{Act, IfKnown, Gave, GaveNone, Took, TookNone, act_of_read, act_of_write}
-use Rattle.orb_tests.specs.Tapes.{act_of, said_by}
-use Rattle.orb_tests.specs.declared.tape.Act.{Act as CodeAct}
+use Rattle.memory_wire.specs.Tapes.{act_of, said_by}
+use Rattle.memory_wire.specs.declared.tape.Act.{Act as CodeAct}
 
 follows-some : {A : Type 0} (step : A → A → Type 0) (old new : A) → step old new → IfKnown step (Some old) (Some new)
 follows-some step old new h now is = let e : new ≡ now = cc in (old, refl, subst (λ u. step old u) e h)

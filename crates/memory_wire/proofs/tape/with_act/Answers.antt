@@ -1,6 +1,6 @@
 use Rattle.std.proofs.Common.{rules, ◌≡◌, ◌++◌, ◌∷◌, []}
-use Rattle.orb_tests.proofs.Said.{said}
-use Rattle.orb_tests.proofs.tape.with_act.Goals as goal
+use Rattle.memory_wire.proofs.Said.{said}
+use Rattle.memory_wire.proofs.tape.with_act.Goals as goal
 
 pub returns : goal.returns
 returns c =

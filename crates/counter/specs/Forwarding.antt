@@ -7,7 +7,7 @@ use Rattle.ft_log.specs.declared.outcome.RawStatus.TheVariants.{LocationForward}
 use Rattle.ft_objects.specs.Interfaces.{raw_operation}
 use Rattle.ft_objects.specs.Servants.{Meaning}
 use Rattle.counter.specs.Counter.{counter_meaning}
-use Rattle.schedule_player.specs.declared.forwarding.Forwarding.{Forwarding}
+use Rattle.counter.specs.declared.forwarding.Forwarding.{Forwarding}
 
 -- its object key, `f`
 abbrev pub is_elsewhere : List ℕ → Bool
@@ -17,7 +17,7 @@ is_elsewhere key = bytes_eq key (codes "f")
 abbrev pub nil_reference : List ℕ
 nil_reference = 0 ∷ 0 ∷ 0 ∷ 1 ∷ 0 ∷ 0 ∷ 0 ∷ 0 ∷ 0 ∷ 0 ∷ 0 ∷ 0 ∷ []
 
--- GIOP 9.4.3.2: what is performed under it is a forward; a schedule says by itself where a call is asked for then
+-- GIOP 9.4.3.2: what is performed under it is a forward; who plays both ends says where a call is asked for then
 abbrev pub forward : Performed
 forward = raw LocationForward Big nil_reference
 

@@ -2,7 +2,7 @@
 
 ghost use Rattle.std.specs.Prelude.{◌≡◌, ◌++◌, ◌≤◌, [], ◌∷◌, Ok, length};
 ghost use Rattle.ft_orb.specs.Wires.{IfKnown, act_of_read, act_of_write};
-ghost use Rattle.orb_tests.specs.Tapes.{act_of, said_by};
+ghost use Rattle.memory_wire.specs.Tapes.{act_of, said_by};
 
 use std::alloc::Global;
 

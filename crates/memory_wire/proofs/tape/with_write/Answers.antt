@@ -1,7 +1,7 @@
 use Rattle.std.proofs.Common.{rules, ◌≡◌, take}
-use Rattle.orb_tests.specs.Tapes.{said_by}
-use Rattle.orb_tests.proofs.Said.{said-as, write-none, write-some}
-use Rattle.orb_tests.proofs.tape.with_write.Goals as goal
+use Rattle.memory_wire.specs.Tapes.{said_by}
+use Rattle.memory_wire.proofs.Said.{said-as, write-none, write-some}
+use Rattle.memory_wire.proofs.tape.with_write.Goals as goal
 
 pub returns-then-n-eq0 : goal.returns-then-n-eq0
 returns-then-n-eq0 c = said-as (said_by c.args.tape) (said_by c.with_act.result) _ _ (write-none c.args.octets.now c.args.n c.if-n-eq0.true) c.with_act.ensures

@@ -11,7 +11,7 @@ pub struct MemoryClock<'a> {
 
 impl<'a> MemoryClock<'a> {
     ghost use Rattle.std.specs.Prelude.{◌≡◌, [], Some};
-    ghost use Rattle.orb_tests.specs.Moments.{moments_given};
+    ghost use Rattle.memory_wire.specs.Moments.{moments_given};
 
     /// A clock that has given no moment.
     pub fn new(moments: &'a [u64]) -> MemoryClock<'a>
@@ -22,7 +22,7 @@ impl<'a> MemoryClock<'a> {
 }
 
 impl<'a> Clock for MemoryClock<'a> {
-    ghost use Rattle.orb_tests.specs.Moments.{moments_given};
+    ghost use Rattle.memory_wire.specs.Moments.{moments_given};
 
     ghost given = { λ c. moments_given c.moments.now c.given };
 

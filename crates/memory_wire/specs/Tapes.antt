@@ -3,8 +3,8 @@ use Rattle.std.specs.Prelude.{List, map, Option}
 use Rattle.std.specs.Option.{option_map}
 use Rattle.std.proofs.Common.{Vec, Global}
 use Rattle.ft_orb.specs.Wires.{Act, Gave, GaveNone, ReadFailed, Took, TookNone, WriteFailed}
-use Rattle.orb_tests.specs.declared.tape.Act.{Act as CodeAct}
-use Rattle.orb_tests.specs.declared.tape.Act.TheVariants as code
+use Rattle.memory_wire.specs.declared.tape.Act.{Act as CodeAct}
+use Rattle.memory_wire.specs.declared.tape.Act.TheVariants as code
 
 -- an act of the code, without where its octets lie in memory
 abbrev pub act_of : CodeAct → Act

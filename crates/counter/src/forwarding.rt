@@ -1,10 +1,10 @@
-//! The servant of the schedules: the counter, and an object that leads each caller elsewhere.
+//! The counter, and beside it an object that leads each caller elsewhere.
 
 ghost use Rattle.std.specs.Prelude.{◌≡◌};
-ghost use Rattle.schedule_player.specs.Forwarding.{is_elsewhere};
+ghost use Rattle.counter.specs.Forwarding.{is_elsewhere};
 
+use crate::servant::Counter;
 use cdr_core::{Order, Val};
-use counter::Counter;
 use ft_log::{Outcome, RawStatus};
 use ft_objects::{Lookup, Servant};
 use std::alloc::{AllocError, Global};
@@ -12,10 +12,11 @@ use std::alloc::{AllocError, Global};
 /// The nil reference (IOP 7.6.2): an empty type id, and no profiles.
 const NIL: &[u8] = b"\0\0\0\x01\0\0\0\0\0\0\0\0";
 
-/// The counter under the key `c`, and under the key `f` an object that forwards each request (GIOP 9.4.3.2). The reference is nil: a
-/// schedule says by itself where a call is asked for then.
+/// The counter under the key `c`, and under the key `f` an object that forwards each request (GIOP 9.4.3.2). The reference is nil:
+/// who plays both ends says where a call is asked for then.
 #[derive(Drop)]
-pub(crate) struct Forwarding {
+pub struct Forwarding {
+    /// The counter.
     pub counter: Counter,
 }
 
@@ -27,8 +28,8 @@ fn is_elsewhere(object_key: &[u8]) -> bool
 }
 
 impl Servant for Forwarding {
-    ghost use Rattle.schedule_player.specs.Forwarding.{forwarding_meaning};
-    ghost use Rattle.schedule_player.specs.facts.Forwarding.{forwarding_is_servant};
+    ghost use Rattle.counter.specs.Forwarding.{forwarding_meaning};
+    ghost use Rattle.counter.specs.facts.Forwarding.{forwarding_is_servant};
 
     ghost meaning = { forwarding_meaning };
 

@@ -8,7 +8,7 @@ use Rattle.ft_objects.specs.Replies.{IsRenderable}
 use Rattle.ft_objects.specs.Servants.{IsServant}
 use Rattle.counter.specs.Counter.{counter_meaning}
 use Rattle.counter.specs.facts.Counter.{counter_is_servant}
-use Rattle.schedule_player.specs.Forwarding.{forward, forwarding_meaning, is_elsewhere, performed_at}
+use Rattle.counter.specs.Forwarding.{forward, forwarding_meaning, is_elsewhere, performed_at}
 
 forward_fits : IsRenderable forward
 forward_fits = search rules

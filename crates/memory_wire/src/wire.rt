@@ -28,7 +28,7 @@ pub struct MemoryWire<'a> {
 }
 
 impl<'a> MemoryWire<'a> {
-    ghost use Rattle.orb_tests.specs.Tapes.{act_of, said_by};
+    ghost use Rattle.memory_wire.specs.Tapes.{act_of, said_by};
 
     /// A wire that has done nothing.
     pub fn new(alloc: Global, terms: Terms<'a>) -> MemoryWire<'a>
@@ -77,7 +77,7 @@ impl<'a> MemoryWire<'a> {
 }
 
 impl<'a> Wire for MemoryWire<'a> {
-    ghost use Rattle.orb_tests.specs.Tapes.{said_by};
+    ghost use Rattle.memory_wire.specs.Tapes.{said_by};
 
     ghost traffic = { λ w. said_by w.tape };
 
