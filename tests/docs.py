@@ -12,7 +12,8 @@ import os
 import re
 import unittest
 
-from scripts import contracts
+from scripts import contracts, items
+from scripts.items import owner_of
 
 ROOT = os.path.dirname(os.path.dirname(os.path.abspath(__file__)))
 # the most octets of a page, and of all that is written by hand together
@@ -28,6 +29,18 @@ PAGES_OF_CRATES = 26_000
 # the most lines of the list that a reader begins with, and of a source
 FIRST_LIST = 450
 LINES = 400
+# the lines below which the body of a function is, but for these: tables, and what would be no clearer in parts
+LINES_OF_FUNCTION = 40
+LONG = {
+    "crates/ft_log/src/system_exception.rt": {"SystemName::repository_id", "<SystemName as fmt::Display>::fmt"},
+    "crates/ft_orb/src/deeds.rt": {"do_deed"},
+    "crates/ft_orb/src/feeding.rt": {"Engine::feed_within"},
+    "crates/ft_orb/src/keeper.rt": {"Keeper::begin_keyed"},
+    "crates/giop_run/src/steps.rt": {"system_name"},
+    "crates/giop_tool/src/help.rt": {"Texts::new"},
+    "crates/lemonrudder/src/named.rt": {"system_name_of", "number_of_system_name"},
+    "crates/uses_tests/src/durable.rt": {"a_ticket_is_given_once_over_three_lives"},
+}
 CONTRACTS = "docs/contracts"
 PATH = r"`((?:crates|tests|docs|examples|bench|bindings|embed|scripts)/[\w./]+)`"
 
@@ -380,6 +393,19 @@ class Sizes(unittest.TestCase):
             if re.match(r"crates/(?!\w+_tests/)\w+/(src|specs)/|scripts/", name):
                 with self.subTest(name):
                     self.assertLessEqual(text_of(name).count("\n"), LINES)
+
+    def test_functions(self):
+        for name in files(".rt"):
+            if re.match(r"crates/\w+/src/", name):
+                with self.subTest(name):
+                    self.assertEqual(long_functions(name), LONG.get(name, set()))
+
+
+def long_functions(name: str) -> set[str]:
+    """The functions of a source whose bodies have too many lines."""
+    owned = [(f"{owner_of(item)}::" if item.inner else "", item) for item in items.items_of(name)]
+    functions = [(owner, it) for owner, item in owned for it in item.inner or [item] if it.kind == "fn"]
+    return {owner + it.name for owner, it in functions if len(it.body) >= LINES_OF_FUNCTION}
 
 
 if __name__ == "__main__":
