@@ -1,6 +1,6 @@
 use Rattle.std.proofs.Common.{◌≡◌, None, length}
 use Rattle.ft_orb.specs.Engines.{waits_in}
-use Rattle.uses.proofs.durable.live_durably.Given as goal
+use Rattle.uses.proofs.durable.feed.Given as goal
 
 -- no request waits
 abbrev pub invariant-loop-left : goal.invariant-loop-left
