@@ -36,8 +36,6 @@ LONG = {
     "crates/ft_orb/src/deeds.rt": {"do_deed"},
     "crates/ft_orb/src/feeding.rt": {"Engine::feed_within"},
     "crates/ft_orb/src/keeper.rt": {"Keeper::begin_keyed"},
-    "crates/giop_run/src/steps.rt": {"system_name"},
-    "crates/giop_tool/src/help.rt": {"Texts::new"},
     "crates/lemonrudder/src/named.rt": {"system_name_of", "number_of_system_name"},
     "crates/uses_tests/src/durable.rt": {"a_ticket_is_given_once_over_three_lives"},
 }
