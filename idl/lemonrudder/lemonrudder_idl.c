@@ -784,6 +784,13 @@ static uint64_t now(void) {
   return lr_moment((uint64_t)time.tv_sec, (uint32_t)time.tv_nsec);
 }
 
+/* What passed by a clock that nobody sets, in 100 ns. */
+static uint64_t passed(void) {
+  struct timespec time;
+  clock_gettime(CLOCK_MONOTONIC, &time);
+  return (uint64_t)time.tv_sec * LR_SECOND + (uint64_t)time.tv_nsec / 100;
+}
+
 static lr_idl_road *road_of(lr_idl_caller *caller) { return caller->is_led ? &caller->led : &caller->home; }
 
 /* Opens the client anew, under the same id. The next call gets the number after this one. */
@@ -881,6 +888,14 @@ static uint64_t patience_of(const lr_idl_caller *caller, const lr_idl_road *road
   return road->count == 1 || share < most ? share : most;
 }
 
+/* Whether the address that is asked has said nothing for too long, and there is another way: another address, or the
+ * one to where a call was led from. */
+static bool is_mute(lr_idl_caller *caller) {
+  const lr_idl_road *road = road_of(caller);
+  const uint64_t most = caller->answer_timeout == 0 ? caller->patience / road->count : caller->answer_timeout;
+  return caller->is_sent && (caller->is_led || road->count > 1) && passed() - caller->since >= most;
+}
+
 /* Connects with the address that is to be asked. False where that fails. */
 static bool call_up(lr_idl_caller *caller) {
   const lr_idl_road *road = road_of(caller);
@@ -910,6 +925,7 @@ static bool send_due(lr_idl_caller *caller) {
   while ((size = lr_client_output(&caller->client, room, sizeof room)) > 0) {
     caller->is_sent = true;
     if (!send_all(caller->fd, room, (size_t)size)) return false;
+    caller->since = passed();
   }
   return size == 0;
 }
@@ -923,17 +939,25 @@ static bool resend(lr_idl_caller *caller) {
   return false;
 }
 
-/* Sends what is due, and takes what comes, for a while. False where the connection is over. */
-static bool talk(lr_idl_caller *caller) {
+/* Takes what comes within so many ms: 1, or 0 where that is nothing; -1 where the connection is over. */
+static int hear(lr_idl_caller *caller, int within) {
   unsigned char room[PIECE];
-  if (!send_due(caller)) return false;
   struct pollfd waits = {caller->fd, POLLIN, 0};
-  int ready = poll(&waits, 1, WAIT);
-  if (ready == 0) return resend(caller);
-  if (ready < 0) return errno == EINTR;
+  int ready = poll(&waits, 1, within);
+  if (ready <= 0) return ready == 0 || errno == EINTR ? 0 : -1;
   ssize_t count = recv(caller->fd, room, sizeof room, 0);
+  caller->since = passed();
   return count > 0 && lr_client_feed(&caller->client, room, (size_t)count) >= 0 &&
-         lr_client_is_connected(&caller->client) == 1;
+                 lr_client_is_connected(&caller->client) == 1
+             ? 1
+             : -1;
+}
+
+/* Takes what comes, for a while. False where the connection is over, or left for the next address. */
+static bool talk(lr_idl_caller *caller) {
+  int heard = hear(caller, WAIT);
+  if (heard != 0) return heard > 0;
+  return !is_mute(caller) && resend(caller);
 }
 
 /* The completion of a call: 1, or 0 where it is pending. */
@@ -958,13 +982,14 @@ struct tries {
   long delay;
 };
 
-/* Leaves an address for the next one, but for one that had answered on this connection. After each connection, and after
- * a round of addresses, it waits. False where a call was led to where nobody answers. */
+/* Leaves an address for the next one, but for one that had answered on this connection and was lost. After each
+ * connection, and after a round of addresses, it waits. False where a call was led to where nobody answers. */
 static bool move_on(lr_idl_caller *caller, struct tries *tries) {
   lr_idl_road *road = road_of(caller);
-  const bool was_there = caller->fd >= 0, was_heard = caller->is_heard;
+  const bool was_mute = caller->fd >= 0 && is_mute(caller), was_there = caller->fd >= 0 && !was_mute;
+  const bool was_heard = caller->is_heard;
   hang_up(caller);
-  if (was_heard) return true;
+  if (was_heard && !was_mute) return true;
   road->next = (road->next + 1) % road->count;
   tries->failed = was_there ? 0 : tries->failed + 1;
   if (caller->is_led && tries->failed == road->count) return false;
@@ -972,15 +997,21 @@ static bool move_on(lr_idl_caller *caller, struct tries *tries) {
   return true;
 }
 
-/* Waits until a call has ended. AGAIN: nobody answers where it was led, and it is not pending there any more. */
+/* Waits until a call has ended. AGAIN: nobody answers where it was led, or it is oneway and could not be sent; and it is
+ * not pending any more. */
 static int64_t settle(lr_idl_caller *caller, int64_t call, lr_completion *ended) {
   struct tries tries = {0, FIRST_DELAY};
   for (;;) {
     int64_t done = lr_client_tick(&caller->client, now());
+    /* (a oneway call has ended as soon as it is due: so what is due is sent first) */
+    bool is_well = caller->fd < 0 || send_due(caller);
     if (done == LR_OK) done = completed(caller, call, ended);
-    if (done != 0) return done < 0 ? done : LR_OK;
-    if (caller->fd >= 0 ? talk(caller) : call_up(caller)) continue;
-    if (move_on(caller, &tries)) continue;
+    if (done < 0) return done;
+    if (done == 1 && (is_well || ended->how != LR_ENDED_SENT)) return LR_OK;
+    if (done == 0 && is_well && (caller->fd >= 0 ? talk(caller) : call_up(caller))) continue;
+    const bool goes_on = move_on(caller, &tries);
+    if (goes_on && done == 0) continue;
+    if (goes_on) return AGAIN;
     done = lr_client_cancel(&caller->client, call);
     forget(caller);
     return done < 0 ? done : AGAIN;
@@ -1064,6 +1095,8 @@ static int64_t make_call(const lr_idl_object *object, const lr_idl_operation *op
   for (unsigned hops = 0;; hops++) {
     if (hops > 2) wait_longer(&delay);
     int64_t done = turn_to(object, last);
+    /* (of a oneway call nobody would hear that its connection is over) */
+    if (operation->is_oneway && caller->fd >= 0 && hear(caller, 0) < 0) hang_up(caller);
     if (done == LR_OK) done = call_by(object, operation, out, expiration);
     if (done == LR_E_EXPIRED && hops > 0) {
       *ended = (lr_completion){.how = LR_ENDED_EXPIRED};

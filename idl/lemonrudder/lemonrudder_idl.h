@@ -219,13 +219,16 @@ typedef struct {
 #define LR_IDL_ROAD {NULL, 0, 0, 2, NULL, 0}
 
 /* Makes calls over TCP, one at a time, and waits for each: it is sent again under its number on each new connection,
- * and after TRANSIENT, until it is answered or expires. An address that can't be reached, is lost without an answer, or
- * answers TRANSIENT is left for the next one. A call that is forwarded is asked for where it leads, and so are later
- * ones of its key, until nobody answers there. Its client id is random. But for `patience` it is not yours to change. */
+ * and after TRANSIENT, until it is answered or expires. An address that can't be reached, is lost without an answer,
+ * answers TRANSIENT, or says nothing for `answer_timeout` is left for the next one. A call that is forwarded is asked
+ * for where it leads, and so are later ones of its key, until nobody answers there. A oneway call has ended once it is
+ * sent. Its client id is random. But for `patience` and `answer_timeout` it is not yours to change. */
 typedef struct {
   lr_client client;
   int fd;            /* of its socket, -1 where it is not connected */
   uint64_t patience; /* how long calls that come are sent again, and a socket is waited for, in 100 ns: 60 seconds */
+  /* How long one of several addresses may say nothing to a call, in 100 ns; 0: its share of `patience`. */
+  uint64_t answer_timeout;
   lr_idl_road home;
   lr_idl_road led; /* where the last forward leads; it has no addresses where that counts no more */
   void *from;      /* the key that was forwarded */
@@ -236,10 +239,11 @@ typedef struct {
   bool is_heard; /* an answer came on this connection */
   bool is_sent;  /* a call was sent on it that is not answered */
   bool is_lost;  /* .. and on one before */
+  uint64_t since; /* when something was sent or came last, by a clock that nobody sets, in 100 ns */
 } lr_idl_caller;
 
 #define LR_IDL_CALLER \
-  {LR_INIT, -1, 0, LR_IDL_ROAD, LR_IDL_ROAD, NULL, 0, 0, {0}, false, false, false, false}
+  {LR_INIT, -1, 0, 0, LR_IDL_ROAD, LR_IDL_ROAD, NULL, 0, 0, {0}, false, false, false, false, 0}
 
 /* Opens a caller of a server, which is LR_IDL_CALLER before. LR_E_OPEN, LR_E_MEMORY. */
 int64_t lr_idl_caller_open(lr_idl_caller *caller, const char *host, uint16_t port);

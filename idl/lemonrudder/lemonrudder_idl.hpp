@@ -464,11 +464,11 @@ struct Road {
 };
 
 /* Makes calls over TCP, one at a time, and waits for each: it is sent again under its number on each new connection,
- * and after TRANSIENT, until it is answered or expires. An address that can't be reached, is lost without an answer, or
- * answers TRANSIENT is left for the next one. A call that is forwarded is asked for where it leads, and so are later
- * ones of its key, until nobody answers there. Where no address can be reached as it expires, it ends by TRANSIENT,
- * COMPLETED_NO, or by COMM_FAILURE, COMPLETED_MAYBE, if a connection was lost on which it was sent. Its client id is
- * random. */
+ * and after TRANSIENT, until it is answered or expires. An address that can't be reached, is lost without an answer,
+ * answers TRANSIENT, or says nothing for a time is left for the next one. A call that is forwarded is asked for where it
+ * leads, and so are later ones of its key, until nobody answers there. A oneway call has ended once it is sent. Where no
+ * address can be reached as it expires, it ends by TRANSIENT, COMPLETED_NO, or by COMM_FAILURE, COMPLETED_MAYBE, if a
+ * connection was lost on which it was sent. Its client id is random. */
 class Caller {
  public:
   static Result<Caller> open(std::string host, std::uint16_t port) {
@@ -495,6 +495,8 @@ class Caller {
   Octets key() const noexcept { return home_.key; }
   /* How long the calls that come are sent again. */
   void patience(std::chrono::milliseconds patience) noexcept { patience_ = patience; }
+  /* How long one of several addresses may say nothing to a call; 0, as at first: its share of the patience. */
+  void answer_timeout(std::chrono::milliseconds most) noexcept { answer_timeout_ = most; }
   std::uint64_t expiration() const noexcept {
     return now() + static_cast<std::uint64_t>(patience_.count()) * (LR_SECOND / 1000);
   }
@@ -502,7 +504,11 @@ class Caller {
     return make(call, [this](const Call& one) { return client_.call(now(), one); });
   }
   Result<Reply> call_raw(const RawCall& call) {
-    return make(call, [this](const RawCall& one) { return client_.call_raw(now(), one); });
+    return make(call, [this](const RawCall& one) {
+      // (of a oneway call nobody would hear that its connection is over)
+      if (one.wish == Wish::none && socket_.is_open() && !hear(0).value_or(true)) drop();
+      return client_.call_raw(now(), one);
+    });
   }
 
  private:
@@ -575,16 +581,22 @@ class Caller {
     return true;
   }
 
-  /* Waits until a call has ended. Without a reply: nobody answers where it was led, and it is not pending there. */
+  /* Waits until a call has ended. Without a reply: nobody answers where it was led, or it is oneway and could not be
+   * sent; and it is not pending any more. */
   Result<std::optional<Reply>> settle(std::int64_t call) {
     std::size_t failed = 0;
     for (Milliseconds delay = first_delay;;) {
       if (const Done done = client_.tick(now()); !done) return done.error();
+      // (a oneway call has ended as soon as it is due: so what is due is sent first)
+      const bool is_well = !socket_.is_open() || send_due();
       auto ended = client_.completed();
       if (!ended) return ended.error();
-      if (*ended && (*ended)->call == call) return ended_by(**ended);
-      if (socket_.is_open() ? talk() : connect()) continue;
-      if (move_on(failed, delay)) continue;
+      const bool has_ended = *ended && (*ended)->call == call;
+      if (has_ended && (is_well || (*ended)->ended() != Ended::sent)) return ended_by(**ended);
+      if (!has_ended && is_well && (socket_.is_open() ? talk() : connect())) continue;
+      const bool goes_on = move_on(failed, delay);
+      if (goes_on && !has_ended) continue;
+      if (goes_on) return std::optional<Reply>();
       const auto cancelled = client_.cancel(call);
       if (!cancelled.ok()) return cancelled.error();
       led_ = Road();
@@ -619,13 +631,14 @@ class Caller {
     delay = std::min(2 * delay, Milliseconds(1000));
   }
 
-  /* Leaves an address for the next one, but for one that had answered on this connection. After each connection, and
-   * after a round of addresses, it waits. False where a call was led to where nobody answers. */
+  /* Leaves an address for the next one, but for one that had answered on this connection and was lost. After each
+   * connection, and after a round of addresses, it waits. False where a call was led to where nobody answers. */
   bool move_on(std::size_t& failed, Milliseconds& delay) {
-    const bool was_there = socket_.is_open(), was_heard = is_heard_;
+    const bool was_mute = socket_.is_open() && is_mute(), was_there = socket_.is_open() && !was_mute;
+    const bool was_heard = is_heard_;
     const std::size_t count = road().addresses.size();
     drop();
-    if (was_heard) return true;
+    if (was_heard && !was_mute) return true;
     road().next = (road().next + 1) % count;
     failed = was_there ? 0 : failed + 1;
     if (is_led_ && failed == count) return false;
@@ -672,6 +685,7 @@ class Caller {
       if (*size == 0) return true;
       is_sent_ = true;
       if (!send_all({room, *size})) return false;
+      since_ = Clock::now();
     }
   }
 
@@ -695,18 +709,32 @@ class Caller {
     return false;
   }
 
-  /* Sends what is due, and takes what comes, for a while. False where the connection is over. */
-  bool talk() {
+  /* Whether the address that is asked has said nothing for too long, and there is another way: another address, or the
+   * one to where a call was led from. */
+  bool is_mute() {
+    const auto count = static_cast<Milliseconds::rep>(road().addresses.size());
+    const Milliseconds most = answer_timeout_.count() == 0 ? patience_ / count : answer_timeout_;
+    return is_sent_ && (is_led_ || count > 1) && Clock::now() - since_ >= most;
+  }
+
+  /* Takes what comes within so many ms, and answers whether the connection goes on; LR_E_NONE: nothing came. */
+  Result<bool> hear(int within) {
     std::uint8_t room[4096];
-    if (!send_due()) return false;
     pollfd waits{socket_.fd(), POLLIN, 0};
-    const int ready = poll(&waits, 1, 100);
-    if (ready == 0) return resend();
-    if (ready < 0) return errno == EINTR;
-    const ssize_t count = recv(socket_.fd(), room, sizeof room, 0);
+    const int ready = poll(&waits, 1, within);
+    if (ready == 0 || (ready < 0 && errno == EINTR)) return Error(LR_E_NONE);
+    const ssize_t count = ready < 0 ? -1 : recv(socket_.fd(), room, sizeof room, 0);
+    since_ = Clock::now();
     return count > 0 && client_.feed({room, static_cast<std::size_t>(count)}).ok() && client_.is_connected();
   }
 
+  /* Takes what comes, for a while. False where the connection is over, or left for the next address. */
+  bool talk() {
+    const Result<bool> heard = hear(100);
+    return heard.ok() ? *heard : !is_mute() && resend();
+  }
+
+  using Clock = std::chrono::steady_clock;
   static constexpr Milliseconds first_delay{20};
 
   Client client_;
@@ -720,6 +748,8 @@ class Caller {
   bool is_sent_ = false;   // a call was sent on it that is not answered
   bool is_lost_ = false;   // .. and on one before
   std::chrono::milliseconds patience_{60000};
+  std::chrono::milliseconds answer_timeout_{0};
+  Clock::time_point since_;  // when something was sent or came last
   lemonrudder::detail::Descriptor socket_;
 };
 
