@@ -60,7 +60,8 @@ int loop_serve(lr_server *server, int listener, void (*perform)(lr_server *serve
 /* Takes an object away: `perform` and `settle` may, on whose thread it is. Who asks for it from now on is answered
  * OBJECT_NOT_EXIST; with LOOP_ASKS_FIRST `perform` is asked for what has FT_REQUEST, as for what is refused so. What is
  * parked of it ends by its own outcome, which is kept. Once nothing of it is parked it is taken out of what the server
- * has on offer (lr_catalogue_remove); up to then its key is taken, and a LocateRequest says that it is here. LR_E_MEMORY. */
+ * has on offer (lr_catalogue_remove); up to then its key is taken, and a LocateRequest says that it is here.
+ * LR_E_MEMORY. */
 int64_t loop_remove(const void *key, size_t key_size);
 
 /* Has `settle` called, on the thread of loop_serve. It may be called by any thread, and in a signal's handler. */

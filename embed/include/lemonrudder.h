@@ -328,7 +328,7 @@ enum {
   LR_SET_PARKED = 5,    /* requests that may be parked at a time: 1024 */
   LR_SET_PARKED_OF = 6, /* .. of those that came on one connection: 64 */
   LR_SET_JOINED = 7,    /* who may wait for the outcome of a parked one, beside the last who came: 8 */
-  LR_SET_DUE = 8,       /* octets due on a connection from which on it is fed no more: 1048576 */
+  LR_SET_DUE = 8,       /* octets due on a connection, 1 or more, from which on it is fed no more: 1048576 */
   LR_SET_CLIENT_ID = 9, /* octets of a client's id at most; who has a longer one is answered BAD_CONTEXT: 256 */
   LR_SET_ASK_FIRST = 10 /* 1 where you are asked before a request with FT_REQUEST is refused: 0 */
 };
@@ -801,7 +801,7 @@ LR_API int64_t lr_write_cancel(void *room, size_t size, uint32_t version, uint32
 LR_API int64_t lr_write_locate_request(void *room, size_t size, uint32_t version, uint32_t order, uint32_t request_id,
                                        const void *key, size_t key_size);
 
-/* Without a body, so LR_LOCATE_UNKNOWN_OBJECT or LR_LOCATE_OBJECT_HERE. */
+/* Without a body, so LR_LOCATE_UNKNOWN_OBJECT or LR_LOCATE_OBJECT_HERE: LR_E_RANGE of others. */
 LR_API int64_t lr_write_locate_reply(void *room, size_t size, uint32_t version, uint32_t order, uint32_t request_id,
                                      uint32_t status);
 

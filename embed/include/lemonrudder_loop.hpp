@@ -536,8 +536,8 @@ class Loop {
 
   /* Takes an object away, on the thread of serve(), also in an operation. Who asks for it from now on is answered
    * OBJECT_NOT_EXIST; with Settings::ask_first the servant of otherwise() is asked for what has FT_REQUEST, as for what
-   * is refused so. What is parked of it ends by its own outcome, which is kept. Once nothing of it is parked it is taken
-   * out of what is on offer; up to then its key is taken, and a LocateRequest says that it is here. */
+   * is refused so. What is parked of it ends by its own outcome, which is kept. Once nothing of it is parked it is
+   * taken out of what is on offer; up to then its key is taken, and a LocateRequest says that it is here. */
   void remove(Octets key) { leaving_.insert(std::string(key.text())); }
 
   /* Tells it to stop. Any thread may, and a signal's handler. */
@@ -661,8 +661,8 @@ class Loop {
     note_parked(ticket, asked.key());
   }
 
-  /* Whether the object of a request leaves, and it is refused, or given up where it can't be read. Where it is asked for
-   * first it is said to be refused so, and not yet. */
+  /* Whether the object of a request leaves, and it is refused, or given up where it can't be read. Where it is asked
+   * for first it is said to be refused so, and not yet. */
   bool leaves(Asked& asked) {
     if (!asked.load()) return static_cast<void>(server_.give_up(asked.ticket())), true;
     if (leaving_.find(asked.key().text()) == leaving_.end()) return false;

@@ -997,8 +997,8 @@ static bool move_on(lr_idl_caller *caller, struct tries *tries) {
   return true;
 }
 
-/* Waits until a call has ended. AGAIN: nobody answers where it was led, or it is oneway and could not be sent; and it is
- * not pending any more. */
+/* Waits until a call has ended. AGAIN: nobody answers where it was led, or it is oneway and could not be sent; and it
+ * is not pending any more. */
 static int64_t settle(lr_idl_caller *caller, int64_t call, lr_completion *ended) {
   struct tries tries = {0, FIRST_DELAY};
   for (;;) {
