@@ -1216,7 +1216,7 @@ class Reader {
  public:
   /* Numbers are aligned from `at`, the place of the first octet: 0 for an encapsulation, body_at for a body. */
   explicit Reader(Octets octets, Order order = Order::big, std::uint64_t at = 0) noexcept
-      : octets_(octets), place_{at, 0, static_cast<std::uint32_t>(order), 0} {}
+      : Reader(octets, lr_place{at, 0, static_cast<std::uint32_t>(order), 0}) {}
   /* A vector, string or array that is gone before it is read. */
   template <class Owner, std::enable_if_t<detail::is_gone<Owner>, int> = 0>
   explicit Reader(Owner&& octets, Order order = Order::big, std::uint64_t at = 0) = delete;
@@ -1274,8 +1274,19 @@ class Reader {
   /* What was not read. */
   Octets rest() const noexcept { return octets_.from(place_.next); }
 
+  /* How much memory may be taken for what is read, as by lemonrudder_idl.hpp, in octets: in a new one 65536, and 16
+   * times as many as it has octets. */
+  void limit(std::uint64_t octets) noexcept { left_ = octets; }
+  /* Takes so much of it. LR_E_VALUE where so much is not left. */
+  Done claim(std::uint64_t octets) noexcept {
+    if (octets > left_) return Error(LR_E_VALUE);
+    left_ -= octets;
+    return {};
+  }
+
  private:
-  Reader(Octets octets, lr_place place) noexcept : octets_(octets), place_(place) {}
+  Reader(Octets octets, lr_place place) noexcept
+      : octets_(octets), place_(place), left_(65536 + std::uint64_t{16} * octets.size()) {}
 
   template <class T, class Get>
   Result<T> get(Get of_octets) noexcept {
@@ -1296,6 +1307,7 @@ class Reader {
 
   Octets octets_;
   lr_place place_;
+  std::uint64_t left_;
 };
 
 namespace detail {

@@ -191,7 +191,20 @@ struct reader {
   const void *octets;
   size_t size;
   lr_place *place;
+  uint64_t *left; /* how much memory values may take yet, or NULL where they own none */
 };
+
+/* How much memory the values of so many octets may take. */
+static uint64_t limit_of(uint64_t limit, size_t size) {
+  return limit != 0 ? limit : UINT64_C(65536) + UINT64_C(16) * size;
+}
+
+/* Takes so much of it. */
+static int64_t claim(const struct reader *in, uint64_t size) {
+  if (size > *in->left) return LR_E_VALUE;
+  *in->left -= size;
+  return LR_OK;
+}
 
 /* Reads a value into one that is all zero. At an error it owns what was read of it. */
 static int64_t get_value(const struct reader *in, const lr_idl_type *type, void *value);
@@ -215,7 +228,7 @@ static int64_t get_text(const struct reader *in, const lr_idl_type *type, void *
   uint64_t start, length;
   int64_t done = lr_get_string(in->octets, in->size, in->place, &start, &length);
   if (done < 0) return done;
-  if (type->count != 0 && length > type->count) return LR_E_VALUE;
+  if ((type->count != 0 && length > type->count) || claim(in, length + 1) < 0) return LR_E_VALUE;
   char *text = malloc((size_t)length + 1);
   if (text == NULL) return LR_E_MEMORY;
   memcpy(text, (const char *)in->octets + start, (size_t)length);
@@ -228,7 +241,7 @@ static int64_t get_octets(const struct reader *in, const lr_idl_type *type, void
   uint64_t start, length;
   int64_t done = lr_get_octets(in->octets, in->size, in->place, &start, &length);
   if (done < 0 || length == 0) return done;
-  if (type->count != 0 && length > type->count) return LR_E_VALUE;
+  if ((type->count != 0 && length > type->count) || claim(in, length) < 0) return LR_E_VALUE;
   struct sequence some = {(uint32_t)length, malloc((size_t)length)};
   if (some.buffer == NULL) return LR_E_MEMORY;
   memcpy(some.buffer, (const unsigned char *)in->octets + start, (size_t)length);
@@ -237,10 +250,11 @@ static int64_t get_octets(const struct reader *in, const lr_idl_type *type, void
 }
 
 /* Makes room for more members of a sequence, so many in all at most, which are all zero. (It grows by what is read, as
- * octets that are none may say any count.) */
+ * octets that are none may say any count.) LR_E_VALUE: there is room for so many. */
 static int64_t widen(struct sequence *some, uint32_t *room, uint32_t most, size_t size) {
   uint32_t more = *room > most / 2 ? most : *room == 0 ? 8 : 2 * *room;
   if (more > most) more = most;
+  if (more == *room) return LR_E_VALUE;
   if (more > SIZE_MAX / size) return LR_E_MEMORY;
   void *buffer = realloc(some->buffer, more * size);
   if (buffer == NULL) return LR_E_MEMORY;
@@ -250,14 +264,22 @@ static int64_t widen(struct sequence *some, uint32_t *room, uint32_t most, size_
   return LR_OK;
 }
 
+/* How many members a sequence may have, of which it has some: as many as it says, or there is memory for. */
+static uint32_t most_of(const struct reader *in, uint32_t count, uint32_t length, size_t size) {
+  const uint64_t more = size == 0 ? UINT32_MAX : *in->left / size;
+  return more < count - length ? length + (uint32_t)more : count;
+}
+
 static int64_t get_sequence(const struct reader *in, const lr_idl_type *type, void *value) {
   struct sequence some = {0, NULL};
+  const size_t size = type->inner->size;
   uint32_t count = 0, room = 0;
   int64_t done = lr_get_ulong(in->octets, in->size, in->place, &count);
   if (done == LR_OK && type->count != 0 && count > type->count) return LR_E_VALUE;
   while (done == LR_OK && some.length < count) {
-    if (some.length == room) done = widen(&some, &room, count, type->inner->size);
-    if (done == LR_OK) done = get_value(in, type->inner, part_of(some.buffer, some.length++ * type->inner->size));
+    if (some.length == room) done = widen(&some, &room, most_of(in, count, some.length, size), size);
+    if (done == LR_OK) done = claim(in, size);
+    if (done == LR_OK) done = get_value(in, type->inner, part_of(some.buffer, some.length++ * size));
   }
   memcpy(value, &some, sizeof some);
   return done;
@@ -307,15 +329,21 @@ static int64_t get_value(const struct reader *in, const lr_idl_type *type, void 
   }
 }
 
-int64_t lr_idl_get(const lr_idl_type *type, const void *octets, size_t size, lr_place *place, void *value) {
-  struct reader in = {octets, size, place};
-  lr_place before = *place;
+/* .. as a whole: at an error nothing is read. */
+static int64_t get_whole(const struct reader *in, const lr_idl_type *type, void *value) {
+  lr_place before = *in->place;
   memset(value, 0, type->size);
-  int64_t done = get_value(&in, type, value);
+  int64_t done = get_value(in, type, value);
   if (done == LR_OK) return LR_OK;
   lr_idl_free(type, value);
-  *place = before;
+  *in->place = before;
   return done;
+}
+
+int64_t lr_idl_get(const lr_idl_type *type, const void *octets, size_t size, lr_place *place, void *value) {
+  uint64_t left = limit_of(0, size);
+  struct reader in = {octets, size, place, &left};
+  return get_whole(&in, type, value);
 }
 
 /* ---- writing ---- */
@@ -601,7 +629,8 @@ int64_t lr_idl_perform(const lr_idl_offer *offer, lr_server *server, const lr_re
   } else {
     const lr_idl_method *method = method_of(offer->interface, octets, name_size);
     lr_place place = {asked->body_at, 0, asked->body_order, 0};
-    struct reader in = {octets + name_size, body_size, &place};
+    uint64_t left = limit_of(offer->limit, body_size);
+    struct reader in = {octets + name_size, body_size, &place, &left};
     done = method == NULL ? LR_E_NONE : perform_by(method, offer->servant, &call, &in);
   }
   free(octets);
@@ -717,7 +746,7 @@ static int64_t get_address(const struct reader *in, uint64_t *host, uint64_t *si
 /* Adds the address that a component has, which is an encapsulation. One that is none says nothing. */
 static int64_t add_alternate(lr_idl_road *road, const struct profile *one, const unsigned char *octets, size_t size) {
   lr_place place = {0, 1, size == 0 ? 2 : octets[0], 0};
-  struct reader in = {octets, size, &place};
+  struct reader in = {octets, size, &place, NULL};
   uint64_t host, length;
   uint16_t port;
   if (get_address(&in, &host, &length, &port) < 0) return LR_OK;
@@ -753,7 +782,7 @@ static int64_t get_profile(struct profile *one) {
 /* Adds the addresses of a profile of IIOP. One that is none says nothing. */
 static int64_t add_profile(lr_idl_road *road, const lr_idl_octet__sequence *data) {
   lr_place place = {0, 1, data->_length == 0 ? 2 : data->_buffer[0], 0};
-  struct profile one = {.in = {data->_buffer, data->_length, &place}};
+  struct profile one = {.in = {data->_buffer, data->_length, &place, NULL}};
   if (get_profile(&one) < 0) return LR_OK;
   int64_t done = add_of(road, &one, data->_buffer + one.host, one.host_size, one.port);
   return done < 0 || one.minor == 0 ? done : add_components(road, &one);
@@ -1153,7 +1182,7 @@ static int64_t take_exception(const lr_idl_operation *operation, const struct re
   raised->members = malloc(exception->type->size);
   if (raised->members == NULL) return LR_E_MEMORY;
   raised->exception = exception;
-  done = lr_idl_get(exception->type, in->octets, in->size, in->place, raised->members);
+  done = get_whole(in, exception->type, raised->members);
   if (done == LR_OK && in->place->next != in->size) done = LR_E_VALUE;
   return done < 0 ? done : LR_ENDED_RAISED;
 }
@@ -1194,7 +1223,8 @@ static int64_t take_ended(const lr_idl_object *object, const lr_idl_operation *o
   unsigned char *octets = body_of(object->caller, ended);
   if (octets == NULL) return LR_E_MEMORY;
   lr_place place = {ended->body_at, 0, ended->body_order, 0};
-  struct reader in = {octets, (size_t)ended->body_size, &place};
+  uint64_t left = limit_of(object->caller->limit, (size_t)ended->body_size);
+  struct reader in = {octets, (size_t)ended->body_size, &place, &left};
   int64_t done = take(operation, ended->how, &in, arguments, results, raised);
   free(octets);
   /* (the next call of the key is asked for at home) */

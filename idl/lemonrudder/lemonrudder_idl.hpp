@@ -60,8 +60,7 @@ struct String {
     const auto text = in.get_string();
     if (!text) return text.error();
     if (Bound != 0 && text->size() > Bound) return Error(LR_E_VALUE);
-    value.assign(*text);
-    return {};
+    return in.claim(text->size()).transform([&] { value.assign(*text); });
   }
   static Done write(GrowingWriter& out, const std::string& value) {
     if (Bound != 0 && value.size() > Bound) return Error(LR_E_RANGE);
@@ -69,7 +68,7 @@ struct String {
   }
 };
 
-/* A sequence of at most so many members, likewise. */
+/* A sequence of at most so many members, likewise. What is read takes no more memory than Reader::limit says. */
 template <class Member, std::size_t Bound = 0>
 struct Sequence {
   using Value = std::vector<typename Member::Value>;
@@ -80,7 +79,9 @@ struct Sequence {
     value.clear();
     for (std::size_t index = 0; index < *count; index++) {
       typename Member::Value one{};
-      if (const Done done = Member::read(in, one); !done) return done;
+      Done done = in.claim(sizeof one);
+      if (done) done = Member::read(in, one);
+      if (!done) return done;
       value.push_back(std::move(one));
     }
     return {};
@@ -326,14 +327,18 @@ class Servant {
   Servant(const Servant&) = delete;
   Servant& operator=(const Servant&) = delete;
   virtual ~Servant() = default;
+  /* How much memory the arguments of a call may take; 0: what Reader::limit says of a new one. */
+  std::uint64_t _limit = 0;
 };
 
-/* What a loop has performed for an operation: arguments that are none of their types are answered MARSHAL. */
+/* What a loop has performed for an operation: arguments that are none of their types, or pass the limit of the servant,
+ * are answered MARSHAL. */
 template <class Operation, class Call>
-Loop::Servant performer(Call call) {
-  return [call](Asked& asked) -> Done {
+Loop::Servant performer(const Servant& servant, Call call) {
+  return [&servant, call](Asked& asked) -> Done {
     typename Operation::_arguments::Values values{};
     Reader in = asked.arguments();
+    if (servant._limit != 0) in.limit(servant._limit);
     if (!Operation::_arguments::read(in, values)) return asked.refuse(SystemException::marshal);
     Asking<Operation> asking(asked);
     return std::apply([&](const auto&... one) { return call(asking, one...); }, values);
@@ -400,7 +405,12 @@ struct ResultOf<> {
 struct Reply {
   Completion completion;
   std::vector<std::uint8_t> body;
-  Reader reader() const noexcept { return Reader(Octets(body), completion.byte_order(), completion.body_at); }
+  std::uint64_t limit = 0;  // of what is read of it; 0: that of a new Reader
+  Reader reader() const noexcept {
+    Reader made(Octets(body), completion.byte_order(), completion.body_at);
+    if (limit != 0) made.limit(limit);
+    return made;
+  }
 };
 
 /* Where objects are asked for: addresses in order, of servers that share their outcomes, and the key of an object. */
@@ -497,6 +507,8 @@ class Caller {
   void patience(std::chrono::milliseconds patience) noexcept { patience_ = patience; }
   /* How long one of several addresses may say nothing to a call; 0, as at first: its share of the patience. */
   void answer_timeout(std::chrono::milliseconds most) noexcept { answer_timeout_ = most; }
+  /* How much memory what a reply has may take; 0, as at first: what Reader::limit says of a new one. */
+  void limit(std::uint64_t octets) noexcept { limit_ = octets; }
   std::uint64_t expiration() const noexcept {
     return now() + static_cast<std::uint64_t>(patience_.count()) * (LR_SECOND / 1000);
   }
@@ -611,7 +623,7 @@ class Caller {
     auto body = client_.body();
     // (a call that expired, or wished for no reply, has none)
     if (!body && body.error() != LR_E_NONE) return body.error();
-    return std::optional<Reply>(Reply{ended, std::move(body).value_or(std::vector<std::uint8_t>())});
+    return std::optional<Reply>(Reply{ended, std::move(body).value_or(std::vector<std::uint8_t>()), limit_});
   }
 
   /* The system exception by which a call ends where no address can be reached. */
@@ -749,6 +761,7 @@ class Caller {
   bool is_lost_ = false;   // .. and on one before
   std::chrono::milliseconds patience_{60000};
   std::chrono::milliseconds answer_timeout_{0};
+  std::uint64_t limit_ = 0;
   Clock::time_point since_;  // when something was sent or came last
   lemonrudder::detail::Descriptor socket_;
 };

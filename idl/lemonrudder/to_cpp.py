@@ -277,7 +277,7 @@ def offered(interface: model.Interface, operation: model.Operation) -> List[str]
     call = "raw_operation" if model.is_raw(operation) else "operation"
     ops = f"{path(interface.scope)}::_ops::{identifier(operation.name)}"
     return [*lines, "if (done)", f'  done = loop.{call}(key, "{operation.name}"{types},',
-            f"      {IDL}performer<{ops}>([this](auto& call, const auto&... one) {{",
+            f"      {IDL}performer<{ops}>(*this, [this](auto& call, const auto&... one) {{",
             f"        return this->{method_of(operation)}(call, one...);", "      }));"]
 
 

@@ -19,9 +19,13 @@ from tests.embed.idl_test import EMBED, FOLDER, SECONDS, backend, compiled, lr, 
 from tests.programs import needs
 
 LOG = """
+union Big switch (long) { case 1: long many[1000]; };
+typedef sequence<Big> Bigs;
 interface Log {
   oneway void note(in long n);
   long total();
+  long keep(in Bigs some);
+  Bigs kept();
 };
 """
 
@@ -33,7 +37,7 @@ def idl_file() -> str:
 
 @functools.lru_cache(maxsize=None)
 def in_c() -> list[str]:
-    return idl_c_test.words_of("gcc, sanitized", "stubs_c", os.path.join(EMBED, "idl_stubs.c"), idl_file())
+    return idl_c_test.words_of("gcc", "stubs_c", os.path.join(EMBED, "idl_stubs.c"), idl_file())
 
 
 @functools.lru_cache(maxsize=None)
@@ -63,6 +67,12 @@ class Log:
 
     def total(self) -> int:
         return sum(self.notes)
+
+    def keep(self, some: Any) -> int:
+        return len(some)
+
+    def kept(self) -> Any:
+        return []
 
 
 @contextlib.asynccontextmanager
@@ -161,6 +171,62 @@ class Mute(unittest.TestCase):
         for name, program in PROGRAMS.items():
             with self.subTest(name):
                 asyncio.run(main(program()))
+
+
+# so many discriminators that select no member, each a value of 4,004 octets: a message of 1 MB, and one of 4 KB
+MANY, SOME = 261000, 1000
+# .. of which so many octets at most may be made, where that is said, and how much memory a process takes at most
+LIMIT, MEMORY = 8 << 20, 64 << 20
+
+
+def peak_of(process: int) -> int:
+    """How many octets of memory a process has had at most."""
+    with open(f"/proc/{process}/status", encoding="ascii") as file:
+        return 1024 * int(next(line for line in file if line.startswith("VmHWM")).split()[1])
+
+
+@needs("g++", "cargo", "cargo-clippy", "omniidl")
+class Limited(unittest.TestCase):
+    """Octets of which much more memory would be made than they are."""
+
+    @base.each(PROGRAMS.items)
+    def test_arguments(self, program: Callable[[], list[str]]) -> None:
+        """They are answered MARSHAL, and little memory is taken; where more is allowed they are performed."""
+        async def main() -> None:
+            for words, wanted in (((), {1: 1, SOME: None, MANY: None}), ((str(LIMIT),), {SOME: SOME, MANY: None})):
+                process = await begun(program(), "serve", *words)
+                assert process.stdout is not None
+                async with lr.Client.of((await process.stdout.readline()).decode().strip()) as client:
+                    for count, answer in wanted.items():
+                        body = lr.pack("[l]", [0] * count)
+                        if answer is None:
+                            with self.assertRaises(lr.SystemException) as caught:
+                                await client.call_raw("log", "keep", body)
+                            said = (caught.exception.name, caught.exception.completed)
+                            self.assertEqual(said, ("MARSHAL", lr.Completed.NO))
+                        else:
+                            self.assertEqual((await client.call_raw("log", "keep", body)).unpack("l"), (answer,))
+                    self.assertLess(peak_of(process.pid), MEMORY)
+                process.kill()
+                await process.wait()
+        asyncio.run(main())
+
+    @base.each(PROGRAMS.items)
+    def test_results(self, program: Callable[[], list[str]]) -> None:
+        """They are an error of the call."""
+        async def main() -> None:
+            async with lr.Server(limit=2 << 20) as server:
+                counts = {"some": SOME, "many": MANY}
+                for key, count in counts.items():
+                    body = lr.pack("[l]", [0] * count)
+                    server.add(key, (), {"kept": lambda _, body=body: lr.RawReply(body)})
+                await server.listen()
+                for key, limit, wanted in (("some", "0", "LR_E_VALUE"), ("some", str(LIMIT), "LR_OK"),
+                                           ("many", "0", "LR_E_VALUE"), ("many", str(LIMIT), "LR_E_VALUE")):
+                    printed = (await said(program(), "kept", str(server.reference(key)), limit)).split()
+                    self.assertEqual(printed[-1], wanted)
+                    self.assertLess(1024 * int(printed[0]), MEMORY)
+        asyncio.run(main())
 
 
 if __name__ == "__main__":

@@ -27,6 +27,13 @@ fn index(place: &lr_place) -> usize {
 pub struct Reader<'a> {
     octets: &'a [u8],
     place: lr_place,
+    /// How much memory may be taken yet for what is read.
+    left: usize,
+}
+
+/// How much memory may be taken for what is read of so many octets, where nothing is said.
+fn usual_limit(size: usize) -> usize {
+    size.saturating_mul(16).saturating_add(65_536)
 }
 
 macro_rules! readers {
@@ -57,7 +64,34 @@ impl<'a> Reader<'a> {
     #[must_use]
     pub fn at(octets: &'a [u8], order: Order, place: u64) -> Reader<'a> {
         let place = lr_place { at: place, order: order.number(), ..lr_place::default() };
-        Reader { octets, place }
+        Reader { octets, place, left: usual_limit(octets.len()) }
+    }
+
+    /// Such a reader, of which it may be said how much memory may be taken.
+    pub(crate) fn limited(
+        octets: &'a [u8],
+        order: Order,
+        place: u64,
+        limit: Option<usize>,
+    ) -> Reader<'a> {
+        let reader = Reader::at(octets, order, place);
+        Reader { left: limit.unwrap_or(reader.left), ..reader }
+    }
+
+    /// Says how much memory may be taken for what is read, as by [`idl::read`](crate::idl::read), in
+    /// octets: in a new one 65536, and 16 times as many as it has octets.
+    pub fn limit(&mut self, octets: usize) {
+        self.left = octets;
+    }
+
+    /// Takes so much of it.
+    ///
+    /// # Errors
+    ///
+    /// `Value`, where so much is not left.
+    pub fn claim(&mut self, octets: usize) -> Result<(), Error> {
+        self.left = self.left.checked_sub(octets).ok_or(Error::Value)?;
+        Ok(())
     }
 
     readers! {
@@ -175,7 +209,7 @@ impl<'a> Reader<'a> {
         };
         done(answer)?;
         let octets = self.part(start, length)?;
-        Ok(Reader { octets, place })
+        Ok(Reader { octets, place, left: usual_limit(octets.len()) })
     }
 
     /// A part of the octets, which the library named.

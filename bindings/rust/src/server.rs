@@ -154,6 +154,7 @@ pub struct Server {
     /// The parts of the request that waits, by their numbers; buffers that are used again.
     parts: [Vec<u8>; 4],
     is_asking_first: bool,
+    values_limit: Option<usize>,
     pub(crate) changes: Changes,
 }
 
@@ -171,7 +172,13 @@ impl Server {
             done(sys::lr_server_set(&mut slot, *what, *number))?;
         }
         let is_asking_first = settings.limits.contains(&(sys::LR_SET_ASK_FIRST, 1));
-        Ok(Server { slot, parts: Default::default(), is_asking_first, changes: Changes::default() })
+        let (parts, changes) = Default::default();
+        Ok(Server { slot, parts, is_asking_first, values_limit: None, changes })
+    }
+
+    /// Says how much memory may be taken for what is read of a request, as [`Reader::limit`] does.
+    pub fn set_values_limit(&mut self, octets: usize) {
+        self.values_limit = Some(octets);
     }
 
     /// Opens a connection, whose number is greater than each before.
@@ -696,7 +703,7 @@ impl Request<'_> {
     /// Reads the arguments.
     #[must_use]
     pub fn reader(&self) -> Reader<'_> {
-        Reader::at(self.body(), self.order, self.said.body_at)
+        Reader::limited(self.body(), self.order, self.said.body_at, self.server.values_limit)
     }
 
     /// Whether the operation is raw.

@@ -39,6 +39,7 @@ pub struct Caller {
     patience: Duration,
     /// How long one of several addresses may say nothing; none: its share of the patience.
     answer_timeout: Option<Duration>,
+    values_limit: Option<usize>,
     home: Road,
     /// A key that was forwarded, and where that leads, while somebody answers there.
     led: Option<(Vec<u8>, Road)>,
@@ -102,8 +103,21 @@ impl Caller {
         let id = format!("{one:016x}{two:016x}");
         let client = opened(&id, &home, 0)?;
         let (patience, link) = (PATIENCE, Link::default());
-        let (last, answer_timeout, led, is_led, is_lost) = (0, None, None, false, false);
-        Ok(Caller { client, id, last, patience, answer_timeout, home, led, is_led, link, is_lost })
+        let (last, answer_timeout, values_limit) = (0, None, None);
+        let (led, is_led, is_lost) = (None, false, false);
+        Ok(Caller {
+            client,
+            id,
+            last,
+            patience,
+            answer_timeout,
+            values_limit,
+            home,
+            led,
+            is_led,
+            link,
+            is_lost,
+        })
     }
 
     /// Says how long the calls that come are sent again: 60 seconds in a new one.
@@ -115,6 +129,13 @@ impl Caller {
     /// asked: in a new one its share of the patience.
     pub fn set_answer_timeout(&mut self, most: Duration) {
         self.answer_timeout = Some(most);
+    }
+
+    /// Says how much memory what a reply has may take, as [`Reader::limit`](crate::cdr::Reader::limit)
+    /// does.
+    pub fn set_values_limit(&mut self, octets: usize) {
+        self.values_limit = Some(octets);
+        self.client.set_values_limit(octets);
     }
 
     fn road(&mut self) -> &mut Road {
@@ -130,6 +151,9 @@ impl Caller {
         let led = self.led.as_ref().filter(|(from, _)| from == key).map(|(_, road)| road);
         if led.is_some() != self.is_led || last != self.last {
             self.client = opened(&self.id, led.unwrap_or(&self.home), last)?;
+            if let Some(octets) = self.values_limit {
+                self.client.set_values_limit(octets);
+            }
             (self.is_led, self.last) = (led.is_some(), last);
             self.link = Link::default();
         }

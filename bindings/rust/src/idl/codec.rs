@@ -5,6 +5,7 @@ use crate::cdr::{Reader, Writer};
 use crate::{Error, Type};
 use core::borrow::Borrow;
 use core::marker::PhantomData;
+use core::mem::size_of;
 
 /// What reads and writes values of a type of IDL. A struct, union, enum or exception is its own.
 pub trait Codec {
@@ -17,7 +18,8 @@ pub trait Codec {
     ///
     /// # Errors
     ///
-    /// `Short` and `Value`: the octets are none of the type, or pass a bound.
+    /// `Short` and `Value`: the octets are none of the type, or pass a bound or
+    /// [the limit of the reader](Reader::limit).
     fn read(reader: &mut Reader<'_>) -> Result<Self::Value, Error>;
 
     /// Writes a value.
@@ -138,6 +140,8 @@ impl<const BOUND: usize> Codec for Text<BOUND> {
         if !is_within(octets.len(), BOUND) {
             return Err(Error::Value);
         }
+        let wide = octets.iter().filter(|octet| !octet.is_ascii()).count();
+        reader.claim(octets.len() + wide)?;
         Ok(octets.iter().copied().map(char::from).collect())
     }
 
@@ -163,7 +167,11 @@ impl<const BOUND: usize> Codec for Octets<BOUND> {
 
     fn read(reader: &mut Reader<'_>) -> Result<Vec<u8>, Error> {
         let octets = reader.octets()?;
-        is_within(octets.len(), BOUND).then(|| octets.to_vec()).ok_or(Error::Value)
+        if !is_within(octets.len(), BOUND) {
+            return Err(Error::Value);
+        }
+        reader.claim(octets.len())?;
+        Ok(octets.to_vec())
     }
 
     fn write(writer: &mut Writer, value: &[u8]) -> Result<(), Error> {
@@ -193,6 +201,7 @@ impl<C: Codec, const BOUND: usize> Codec for Sequence<C, BOUND> {
         }
         let mut values = Vec::new();
         for _ in 0..count {
+            reader.claim(size_of::<C::Value>())?;
             values.push(C::read(reader)?);
         }
         Ok(values)
