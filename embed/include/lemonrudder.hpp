@@ -1372,7 +1372,7 @@ class GrowingWriter {
   GrowingWriter(const GrowingWriter&) = delete;
   GrowingWriter& operator=(const GrowingWriter&) = delete;
   GrowingWriter(GrowingWriter&& other) noexcept
-      : octets_(std::move(other.octets_)), place_(other.place_), error_(other.error_) {
+      : octets_(std::move(other.octets_)), place_(other.place_), error_(other.error_), why_(std::move(other.why_)) {
     other.clear();
   }
   GrowingWriter& operator=(GrowingWriter&& other) noexcept {
@@ -1380,6 +1380,7 @@ class GrowingWriter {
       octets_ = std::exchange(other.octets_, {});
       place_ = other.place_;
       error_ = other.error_;
+      why_ = std::exchange(other.why_, {});
       other.clear();
     }
     return *this;
@@ -1429,6 +1430,19 @@ class GrowingWriter {
   void clear() noexcept {
     place_.next = 0;
     error_ = Error(LR_OK);
+    why_.clear();
+  }
+
+  /* Why a value is not written, in a line, where one was refused; and what lemonrudder_idl.hpp says it by: a value is
+   * refused, in what has a name. */
+  const std::string& why() const noexcept { return why_; }
+  Error refuse(std::string why, std::int64_t error = LR_E_RANGE) {
+    why_ = std::move(why);
+    return Error(error);
+  }
+  Done within(std::string_view name, Done done) {
+    if (!done) why_ = std::string(name) + ": " + (why_.empty() ? done.error().text() : why_);
+    return done;
   }
 
  private:
@@ -1464,6 +1478,7 @@ class GrowingWriter {
   std::vector<std::uint8_t> octets_;
   lr_place place_;
   Error error_{LR_OK};
+  std::string why_;
 };
 
 /* ---- writing messages ---- */

@@ -29,6 +29,20 @@ Done into(const Result<From>& from, To& to) {
   return {};
 }
 
+/* Why a value of so many passes a bound. */
+inline std::string over(const char* kind, std::size_t size, std::size_t bound) {
+  return std::string("a ") + kind + " of " + std::to_string(size) + ", and the bound is " + std::to_string(bound);
+}
+
+/* Writes the members of a sequence or an array. */
+template <class Member, class Values>
+Done write_members(GrowingWriter& out, const Values& values) {
+  Done done;
+  std::size_t index = 0;
+  for (auto one = values.begin(); done && one != values.end(); ++one, ++index) done = Member::write(out, *one);
+  return done ? done : out.within("[" + std::to_string(index - 1) + "]", done);
+}
+
 }  // namespace detail
 
 template <class T, class Wire, Result<Wire> (Reader::*Get)() noexcept,
@@ -63,8 +77,9 @@ struct String {
     return in.claim(text->size()).transform([&] { value.assign(*text); });
   }
   static Done write(GrowingWriter& out, const std::string& value) {
-    if (Bound != 0 && value.size() > Bound) return Error(LR_E_RANGE);
-    return out.put_string(value).done();
+    if (Bound != 0 && value.size() > Bound) return out.refuse(detail::over("string", value.size(), Bound));
+    const Done done = out.put_string(value).done();
+    return done.error() == LR_E_TEXT ? out.refuse("a NUL in a string", LR_E_TEXT) : done;
   }
 };
 
@@ -87,10 +102,9 @@ struct Sequence {
     return {};
   }
   static Done write(GrowingWriter& out, const Value& value) {
-    if (Bound != 0 && value.size() > Bound) return Error(LR_E_RANGE);
-    Done done = out.put_count(value.size()).done();
-    for (auto one = value.begin(); done && one != value.end(); ++one) done = Member::write(out, *one);
-    return done;
+    if (Bound != 0 && value.size() > Bound) return out.refuse(detail::over("sequence", value.size(), Bound));
+    const Done done = out.put_count(value.size()).done();
+    return done ? detail::write_members<Member>(out, value) : done;
   }
 };
 
@@ -102,11 +116,7 @@ struct Array {
     for (auto one = value.begin(); done && one != value.end(); ++one) done = Member::read(in, *one);
     return done;
   }
-  static Done write(GrowingWriter& out, const Value& value) {
-    Done done;
-    for (auto one = value.begin(); done && one != value.end(); ++one) done = Member::write(out, *one);
-    return done;
-  }
+  static Done write(GrowingWriter& out, const Value& value) { return detail::write_members<Member>(out, value); }
 };
 
 /* An enum of so many names, from 0 up. */
@@ -115,7 +125,8 @@ struct Enumeration {
   using Value = Enum;
   static Done read(Reader& in, Enum& value) { return detail::into(in.get_enum(Names), value); }
   static Done write(GrowingWriter& out, Enum value) {
-    return static_cast<std::uint32_t>(value) < Names ? out.put_enum(value).done() : Done(Error(LR_E_RANGE));
+    const auto number = static_cast<std::uint32_t>(value);
+    return number < Names ? out.put_enum(value).done() : out.refuse(std::to_string(number) + " is no name of the enum");
   }
 };
 
@@ -215,8 +226,13 @@ struct Codecs {
     static_cast<void>(out);
     return each([&] { return Codec::write(out, values); }...);
   }
-  static Done write_all(GrowingWriter& out, const Values& values) {
-    return std::apply([&](const auto&... one) { return write(out, one...); }, values);
+  /* .. each of which has a name. */
+  static Done write_named(GrowingWriter& out, const std::array<const char*, sizeof...(Codec)>& names,
+                          const typename Codec::Value&... values) {
+    [[maybe_unused]] std::size_t index = 0;
+    static_cast<void>(names);
+    static_cast<void>(out);
+    return each([&] { return out.within(names[index++], Codec::write(out, values)); }...);
   }
 
  private:
@@ -363,7 +379,8 @@ class [[nodiscard]] Outcome {
   template <class Held>
   explicit Outcome(std::in_place_t, Held held) : held_(std::move(held)) {}
   Outcome(Value value) : held_(std::in_place_index<0>, std::move(value)) {}
-  Outcome(Error error) : held_(error) {}
+  Outcome(Error error) : held_(error), why_(error.text()) {}
+  Outcome(Error error, std::string why) : held_(error), why_(std::move(why)) {}
 
   bool ok() const noexcept { return held_.index() == 0; }
   explicit operator bool() const noexcept { return ok(); }
@@ -379,9 +396,12 @@ class [[nodiscard]] Outcome {
     const Error* const found = std::get_if<Error>(&held_);
     return found == nullptr ? Error(LR_OK) : *found;
   }
+  /* .. in a line: of an argument which one, and what it passes. */
+  const std::string& why() const noexcept { return why_; }
 
  private:
   std::variant<Value, Raised..., SystemRaised, Error> held_;
+  std::string why_;
 };
 
 /* The result of no types, of one, or of several. */
@@ -778,7 +798,8 @@ class Stub {
   template <class Operation, class... Values>
   typename Operation::_outcome _call(const Values&... values) const {
     GrowingWriter out;
-    if (const Done done = Operation::_arguments::write(out, values...); !done) return done.error();
+    const Done done = Operation::_arguments::write_named(out, Operation::_parameters, values...);
+    if (!done) return {done.error(), std::string(Operation::_name) + ": " + out.why()};
     const std::uint64_t expiration = caller_->expiration();
     const auto reply = [&] {
       if (Operation::_is_raw || Operation::_is_oneway)

@@ -122,6 +122,8 @@ def members_of(one: model.Declared) -> List[str]:
         lines += ["", f"static {LR}Done _{verb}({head}) {{"]
         for index, (member, type) in enumerate(fields):
             call = f"{codec(type)}::{verb}({'in' if verb == 'read' else 'out'}, value.{member})"
+            if verb == "write":
+                call = f'out.within("{one.members[index][0]}", {call})'
             lines.append(f"  {LR}Done done = {call};" if index == 0 else f"  if (done) done = {call};")
         lines += ["  return done;" if fields else "  return {};", "}"]
     return lines
@@ -179,8 +181,8 @@ def union(one: model.Union, unit: model.Unit) -> List[str]:
               f"static {LR}Done _write({LR}GrowingWriter& out, const {name}& value) {{",
               f"  const {LR}Done done = {codec(one.switch)}::write(out, value._label);", "  if (!done) return done;",
               "  switch (value._value.index()) {"]
-    lines += [f"    case {number}: return {codec(case.type)}::write(out, *std::get_if<{number}>(&value._value));"
-              for number, case in enumerate(one.cases, 1)]
+    lines += [f'    case {number}: return out.within("{case.name}", {codec(case.type)}::write(out, '
+              f"*std::get_if<{number}>(&value._value)));" for number, case in enumerate(one.cases, 1)]
     types = ", ".join(["std::monostate", *(value(case.type) for case in one.cases)])
     lines += ["    default: return done;", "  }", "}"]
     hidden = [*index_of(one), "", f"{switch} _label{{}};", f"std::variant<{types}> _value;"]
@@ -214,6 +216,8 @@ def traits(operation: model.Operation) -> List[str]:
             f"  using _raises = {IDL}Raises<{raises}>;",
             f"  using _outcome = {outcome};",
             f"  static constexpr std::array<std::uint8_t, {len(codes)}> _types{{{', '.join(codes)}}};",
+            f"  static constexpr std::array<const char*, {len(operation.arguments)}> _parameters{{"
+            f"{', '.join(model.quoted(name) for name, _ in operation.arguments)}}};",
             f"  static _outcome _result(_results::Values values) {{ return {{{held}::of(std::move(values))}}; }}", "};"]
 
 

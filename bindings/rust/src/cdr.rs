@@ -3,8 +3,11 @@
 use crate::error::{self, done};
 use crate::sys::{self, lr_place};
 use crate::{Error, Order};
+use alloc::format;
+use alloc::string::String;
 use alloc::vec::Vec;
 use core::ffi::c_void;
+use core::fmt;
 
 /// The index of the next octet.
 fn index(place: &lr_place) -> usize {
@@ -248,6 +251,8 @@ impl<'a> Reader<'a> {
 pub struct Writer {
     octets: Vec<u8>,
     place: lr_place,
+    /// Why a value is not written.
+    why: String,
 }
 
 macro_rules! writers {
@@ -272,7 +277,30 @@ impl Writer {
     #[must_use]
     pub const fn new(order: Order) -> Writer {
         let place = lr_place { at: 0, next: 0, order: order.number(), reserved: 0 };
-        Writer { octets: Vec::new(), place }
+        Writer { octets: Vec::new(), place, why: String::new() }
+    }
+
+    /// Why the value was refused that was to be written last, as by [`idl::write`](crate::idl::write),
+    /// in a line.
+    #[must_use]
+    pub fn why(&self) -> &str {
+        &self.why
+    }
+
+    /// Notes why a value is refused, and gives the error.
+    pub(crate) fn refuse(&mut self, error: Error, why: String) -> Error {
+        self.why = why;
+        error
+    }
+
+    /// Notes in what a value stands that was refused, and gives the error.
+    pub(crate) fn within(&mut self, name: impl fmt::Display, error: Error) -> Error {
+        let why = core::mem::take(&mut self.why);
+        self.why = match why.as_str() {
+            "" => format!("{name}: {error}"),
+            why => format!("{name}: {why}"),
+        };
+        error
     }
 
     /// Writes what is in an encapsulation, beginning with its octet of the byte order. It goes into

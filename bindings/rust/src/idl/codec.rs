@@ -3,7 +3,9 @@
 use super::{String, Vec};
 use crate::cdr::{Reader, Writer};
 use crate::{Error, Type};
+use alloc::format;
 use core::borrow::Borrow;
+use core::fmt;
 use core::marker::PhantomData;
 use core::mem::size_of;
 
@@ -54,6 +56,61 @@ pub fn read<C: Codec>(reader: &mut Reader<'_>) -> Result<C::Value, Error> {
 /// As of [`Codec::write`].
 pub fn write<C: Codec>(writer: &mut Writer, value: &C::Lent) -> Result<(), Error> {
     C::write(writer, value)
+}
+
+/// Writes a member, which [`Writer::why`] names where it is refused.
+///
+/// # Errors
+///
+/// As of [`Codec::write`].
+pub fn write_in<C: Codec>(writer: &mut Writer, name: &str, value: &C::Lent) -> Result<(), Error> {
+    C::write(writer, value).map_err(|error| writer.within(name, error))
+}
+
+/// Writes an argument of an operation.
+///
+/// # Errors
+///
+/// As of [`Codec::write`], and which argument it is.
+pub fn argument<C: Codec>(
+    writer: &mut Writer,
+    operation: &str,
+    name: &str,
+    value: &C::Lent,
+) -> Result<(), Refused> {
+    write_in::<C>(writer, name, value)
+        .map_err(|error| Refused { error, why: format!("{operation}: {}", writer.why()) })
+}
+
+/// An argument that is none of its type.
+#[derive(Clone, Debug, PartialEq, Eq)]
+pub struct Refused {
+    /// `Range`, `Text` or `Long`.
+    pub error: Error,
+    /// Which argument it is, and what it passes, in a line.
+    pub why: String,
+}
+
+impl fmt::Display for Refused {
+    fn fmt(&self, out: &mut fmt::Formatter<'_>) -> fmt::Result {
+        out.write_str(&self.why)
+    }
+}
+
+impl core::error::Error for Refused {}
+
+/// Notes that a value of so many passes its bound.
+fn over(writer: &mut Writer, kind: &str, size: usize, bound: usize) -> Error {
+    writer.refuse(Error::Range, format!("a {kind} of {size}, and the bound is {bound}"))
+}
+
+/// Writes the members of a sequence or an array.
+fn write_members<C: Codec>(writer: &mut Writer, values: &[C::Value]) -> Result<(), Error> {
+    for (index, value) in values.iter().enumerate() {
+        C::write(writer, value.borrow())
+            .map_err(|error| writer.within(format_args!("[{index}]"), error))?;
+    }
+    Ok(())
 }
 
 macro_rules! basics {
@@ -123,7 +180,13 @@ impl Codec for Char {
     }
 
     fn write(writer: &mut Writer, value: &char) -> Result<(), Error> {
-        writer.char(octet_of(*value)?).map(drop)
+        match octet_of(*value) {
+            Ok(octet) => writer.char(octet).map(drop),
+            Err(error) => {
+                Err(writer
+                    .refuse(error, format!("{value:?} is no char: one character of ISO 8859-1")))
+            }
+        }
     }
 }
 
@@ -146,14 +209,19 @@ impl<const BOUND: usize> Codec for Text<BOUND> {
     }
 
     fn write(writer: &mut Writer, value: &str) -> Result<(), Error> {
-        if value.is_ascii() && is_within(value.len(), BOUND) {
-            return writer.string(value).map(drop);
-        }
-        let octets = value.chars().map(octet_of).collect::<Result<Vec<u8>, Error>>()?;
+        let octets = value.chars().map(octet_of).collect::<Result<Vec<u8>, Error>>();
+        let octets = octets.map_err(|error| {
+            writer.refuse(error, format!("{value:?} has characters beyond ISO 8859-1"))
+        })?;
         if !is_within(octets.len(), BOUND) {
-            return Err(Error::Range);
+            return Err(over(writer, "string", octets.len(), BOUND));
         }
-        writer.string(octets).map(drop)
+        match writer.string(octets) {
+            Err(Error::Text) => {
+                Err(writer.refuse(Error::Text, format!("a NUL in the string {value:?}")))
+            }
+            written => written.map(drop),
+        }
     }
 }
 
@@ -176,7 +244,7 @@ impl<const BOUND: usize> Codec for Octets<BOUND> {
 
     fn write(writer: &mut Writer, value: &[u8]) -> Result<(), Error> {
         if !is_within(value.len(), BOUND) {
-            return Err(Error::Range);
+            return Err(over(writer, "sequence", value.len(), BOUND));
         }
         writer.octets(value).map(drop)
     }
@@ -209,10 +277,10 @@ impl<C: Codec, const BOUND: usize> Codec for Sequence<C, BOUND> {
 
     fn write(writer: &mut Writer, values: &[C::Value]) -> Result<(), Error> {
         if !is_within(values.len(), BOUND) {
-            return Err(Error::Range);
+            return Err(over(writer, "sequence", values.len(), BOUND));
         }
         writer.ulong(u32::try_from(values.len()).map_err(|_| Error::Long)?)?;
-        values.iter().try_for_each(|value| C::write(writer, value.borrow()))
+        write_members::<C>(writer, values)
     }
 }
 
@@ -230,7 +298,7 @@ impl<C: Codec, const SIZE: usize> Codec for Array<C, SIZE> {
     }
 
     fn write(writer: &mut Writer, values: &[C::Value; SIZE]) -> Result<(), Error> {
-        values.iter().try_for_each(|value| C::write(writer, value.borrow()))
+        write_members::<C>(writer, values)
     }
 }
 
