@@ -598,9 +598,9 @@ LR_API int64_t lr_client_call(lr_client *client, uint64_t now, uint64_t expirati
                               const void *operation, size_t operation_size, const uint8_t *types, size_t types_size,
                               uint32_t order, const void *arguments, size_t arguments_size);
 
-/* Takes a call of before up again under its number, in a client that was opened anew with the id of before: a server
- * that performed it gives its first outcome. Numbers go up, and the expiration is the one of before. The next call gets
- * the number after this one. Errors as of lr_client_call; LR_E_RANGE also where the number is below 0 or over
+/* Takes a call of before up again under its number, in a client that was opened anew with the id of before, and answers
+ * LR_OK: a server that performed it gives its first outcome. Numbers go up, and the expiration is the one of before. The
+ * next call gets the number after this one. Errors as of lr_client_call; LR_E_RANGE also where the number is below 0 or over
  * 2147483647; and LR_E_TAKEN: it is 0, or not greater than each that this client gave, took up or skipped. */
 LR_API int64_t lr_client_recall(lr_client *client, int64_t call, uint64_t now, uint64_t expiration, const void *key,
                                 size_t key_size, const void *operation, size_t operation_size, const uint8_t *types,
@@ -876,7 +876,7 @@ typedef struct {
   uint64_t at;
   uint64_t next;
   uint32_t order;
-  uint32_t reserved;
+  uint32_t reserved; /* it is not looked at */
 } lr_place;
 
 LR_API int64_t lr_get_octet(const void *octets, size_t size, lr_place *place, uint8_t *value);

@@ -19,6 +19,10 @@
 #include <lemonrudder.h>
 #include <stdbool.h>
 
+#if LR_VERSION_MAJOR != 0 || LR_VERSION_MINOR != 2
+#error "this was made of IDL for lemonrudder.h of version 0.2: make it anew"
+#endif
+
 #ifdef __cplusplus
 extern "C" {
 #endif

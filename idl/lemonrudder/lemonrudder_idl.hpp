@@ -14,6 +14,10 @@
 #include <tuple>
 #include <variant>
 
+#if LR_VERSION_MAJOR != 0 || LR_VERSION_MINOR != 2
+#error "this was made of IDL for lemonrudder.hpp of version 0.2: make it anew"
+#endif
+
 namespace lemonrudder {
 inline namespace v0_2 {
 namespace idl {

@@ -8,15 +8,20 @@ import asyncio
 import contextlib
 import functools
 import os
+import re
+import shutil
+import subprocess
+import tempfile
 import time
 import unittest
 from collections.abc import AsyncIterator, Callable
 from typing import Any
 
+from scripts import library
 from tests import base
 from tests.embed import idl_c_test, idl_roads, idl_rust_test, idl_test
 from tests.embed.idl_test import EMBED, FOLDER, SECONDS, backend, compiled, lr, made
-from tests.programs import needs
+from tests.programs import ROOT, needs, tool
 
 LOG = """
 union Big switch (long) { case 1: long many[1000]; };
@@ -227,6 +232,29 @@ class Limited(unittest.TestCase):
                     self.assertEqual(printed[-1], wanted)
                     self.assertLess(1024 * int(printed[0]), MEMORY)
         asyncio.run(main())
+
+
+@needs("gcc", "g++", "omniidl")
+class Versions(unittest.TestCase):
+    """The version of the headers for which it was made."""
+
+    @base.each(lambda: [(name, name) for name in ("gcc", "g++")])
+    def test_bound(self, compiler: str) -> None:
+        """What was made does not compile with headers of another series."""
+        language, end = ("c", "h") if compiler == "gcc" else ("cpp", "hpp")
+        backend(idl_file(), language)
+        for minor, wanted in ((library.VERSION.split(".")[1], False), ("77", True)):
+            with tempfile.TemporaryDirectory() as folder:
+                include = os.path.join(folder, "include")
+                shutil.copytree(os.path.join(ROOT, "embed", "include"), include)
+                path = os.path.join(include, "lemonrudder.h")
+                with open(path, encoding="ascii") as file:
+                    text = re.sub(r"(#define LR_VERSION_MINOR) \d+", rf"\1 {minor}", file.read())
+                with open(path, "w", encoding="ascii") as file:
+                    file.write(text)
+                words = [tool(compiler), f"-I{include}", "-fsyntax-only", os.path.join(FOLDER.name, f"log_idl.{end}")]
+                ran = subprocess.run(words, capture_output=True, text=True, check=False)
+                self.assertEqual("make it anew" in ran.stderr, wanted, ran.stderr)
 
 
 if __name__ == "__main__":
