@@ -393,6 +393,7 @@ class Loop {
 
   explicit Loop(LoopLimits limits = {}) : limits_(limits), waiter_(first + limits.peers), peers_(first + limits.peers) {
     if (auto opened = Catalogue::open()) catalogue_ = *std::move(opened);
+    if (auto opened = Catalogue::open()) of_families_ = *std::move(opened);
     for (std::size_t slot = peers_.size(); slot-- > first;) unused_.push_back(slot);
   }
   ~Loop() {
@@ -411,29 +412,42 @@ class Loop {
     std::string name(key.text()), ids;
     if (types_.find(name) != types_.end()) return Error(LR_E_TAKEN);
     for (const char* type : types) ids.append(type).push_back('\0');
-    const Done done = change([name, ids](Catalogue& all) {
+    const auto add = [name, ids](Catalogue& all) {
       return all.object(name).and_then([&] { return all.repository_ids(name, ids); });
-    });
-    return done.transform([&] { types_[name] = *types.begin(); });
+    };
+    return change(key, add).transform([&] { types_[name] = *types.begin(); });
   }
-  /* An exception of the operation that is added next. */
+  /* An exception of the operation that is added next, if that is not raw. */
   Done exception(Octets id, Types members) {
-    return change([name = std::string(id.text()), members = copy_of(members)](Catalogue& all) {
-      return all.exception(name, members);
-    });
+    auto scratch = Catalogue::open();
+    if (!scratch) return scratch.error();
+    const Done done = scratch->exception(id, members);
+    return done.transform([&] { exceptions_.emplace_back(id.text(), copy_of(members)); });
   }
   Done operation(Octets key, std::string_view name, Types arguments, Types results, Servant servant) {
-    const Done done = change([object = std::string(key.text()), operation = std::string(name),
-                              arguments = copy_of(arguments), results = copy_of(results)](Catalogue& all) {
-      return all.operation(object, operation, arguments, results);
-    });
-    return done.transform([&] { employ(key, name, servant); });
+    const auto add = [object = std::string(key.text()), operation = std::string(name), arguments = copy_of(arguments),
+                      results = copy_of(results), raised = std::exchange(exceptions_, {})](Catalogue& all) {
+      Done done;
+      for (auto one = raised.begin(); done && one != raised.end(); ++one) done = all.exception(one->first, one->second);
+      return done ? all.operation(object, operation, arguments, results) : done;
+    };
+    return change(key, add).transform([&] { employ(key, name, servant); });
   }
   Done raw_operation(Octets key, std::string_view name, Servant servant) {
-    const Done done = change([object = std::string(key.text()), operation = std::string(name)](Catalogue& all) {
+    const auto add = [object = std::string(key.text()), operation = std::string(name)](Catalogue& all) {
       return all.raw_operation(object, operation);
-    });
-    return done.transform([&] { employ(key, name, servant); });
+    };
+    return change(key, add).transform([&] { employ(key, name, servant); });
+  }
+
+  /* A family, before open(): the objects whose keys begin so, of which `exists` says which there are; whose type and
+   * operations those are that its prefix is given. Who asks for another one is answered OBJECT_NOT_EXIST. */
+  Done family(Octets prefix, std::initializer_list<const char*> types, std::function<bool(Octets)> exists) {
+    if (is_open_) return Error(LR_E_OPEN);
+    families_[std::string(prefix.text())] = std::move(exists);
+    const Done done = object(prefix, types);
+    if (!done) families_.erase(std::string(prefix.text()));
+    return done;
   }
 
   /* ---- before open() ---- */
@@ -453,6 +467,8 @@ class Loop {
     if (!settings.due) settings.due = 65536;
     if (!settings.parked_of_one) settings.parked_of_one = 64;
     most_parked_ = *settings.parked_of_one;
+    if (!families_.empty())
+      if (const Done done = catalogue_.families(of_families_); !done) return done;
     asks_first_ = settings.ask_first.value_or(false);
     auto opened = Server::open(catalogue_, seeds, settings);
     if (!opened) return opened.error();
@@ -485,7 +501,9 @@ class Loop {
 
   /* The reference of an object, at the address where the loop listens, or at a host of another name. */
   Result<std::string> reference(Octets key, std::string_view host = {}) {
-    auto ior = Ior::iiop(types_[std::string(key.text())], 2, host.empty() ? address_ : host, port_, key);
+    const auto family = types_.find(key.text()) == types_.end() ? family_of(key) : families_.end();
+    const std::string type = types_[family == families_.end() ? std::string(key.text()) : family->first];
+    auto ior = Ior::iiop(type, 2, host.empty() ? address_ : host, port_, key);
     if (!ior) return ior.error();
     return ior->print();
   }
@@ -590,8 +608,8 @@ class Loop {
 
   /* Changes what is on offer. While a request waits that can't be done: a catalogue of its own says whether it can be,
    * and it is done before anybody is fed again. */
-  Done change(Change made) {
-    if (!is_open_) return made(catalogue_);
+  Done change(Octets key, Change made) {
+    if (!is_open_) return made(families_.find(key.text()) == families_.end() ? catalogue_ : of_families_);
     if (!is_asking_ && changes_.empty()) return exchange(made);
     const Done done = made(catalogue_);
     if (done) changes_.push_back(std::move(made));
@@ -647,11 +665,13 @@ class Loop {
     if (!request.ok() || !*request) return;
     const std::uint64_t ticket = (*request)->ticket;
     Asked asked(server_, **request, mailbox_);
-    if (!leaving_.empty() && leaves(asked)) return;
+    if ((!leaving_.empty() || !families_.empty()) && is_gone(asked)) return;
     const auto identified = server_.identify(ticket);
     if (!identified.ok() || *identified) return;
     if (!asked.load()) return;
-    const auto object = servants_.find(asked.key().text());
+    auto object = servants_.find(asked.key().text());
+    if (const auto family = family_of(asked.key()); object == servants_.end() && family != families_.end())
+      object = servants_.find(family->first);
     const Servant* servant = &otherwise_;
     if (object != servants_.end() && !asked.request().refused_by()) {
       const auto named = object->second.find(asked.operation());
@@ -661,11 +681,28 @@ class Loop {
     note_parked(ticket, asked.key());
   }
 
-  /* Whether the object of a request leaves, and it is refused, or given up where it can't be read. Where it is asked
-   * for first it is said to be refused so, and not yet. */
-  bool leaves(Asked& asked) {
+  /* The family of a key: that of the longest prefix. */
+  std::map<std::string, std::function<bool(Octets)>, std::less<>>::iterator family_of(Octets key) {
+    auto found = families_.end();
+    for (auto it = families_.begin(); it != families_.end(); ++it)
+      if (key.text().substr(0, it->first.size()) == it->first &&
+          (found == families_.end() || found->first.size() < it->first.size()))
+        found = it;
+    return found;
+  }
+
+  /* Whether the object of a key leaves, or is one that its family lacks. */
+  bool lacks(Octets key) {
+    if (leaving_.find(key.text()) != leaving_.end()) return true;
+    const auto family = types_.find(key.text()) == types_.end() ? family_of(key) : families_.end();
+    return family != families_.end() && !family->second(key);
+  }
+
+  /* Whether a request is of an object that leaves, or that a family lacks, and it is refused, or given up where it can't
+   * be read. Where it is asked for first it is said to be refused so, and not yet. */
+  bool is_gone(Asked& asked) {
     if (!asked.load()) return static_cast<void>(server_.give_up(asked.ticket())), true;
-    if (leaving_.find(asked.key().text()) == leaving_.end()) return false;
+    if (!lacks(asked.key())) return false;
     asked.request_.is_refused = asked.request_.is_raw = 1;
     asked.request_.refusal = LR_EX_OBJECT_NOT_EXIST;
     if (asks_first_ && asked.request().has_client) return false;
@@ -945,6 +982,9 @@ class Loop {
   std::uint64_t last_ = 0;  // the connection that was opened last
 
   Catalogue catalogue_;
+  Catalogue of_families_;
+  std::map<std::string, std::function<bool(Octets)>, std::less<>> families_;  // which of a prefix there are
+  std::vector<std::pair<std::string, std::vector<std::uint8_t>>> exceptions_;  // of the operation that is added next
   Server server_;
   std::size_t most_parked_ = 0;
   std::map<std::string, std::string, std::less<>> types_;

@@ -351,17 +351,25 @@ class Servant {
   std::uint64_t _limit = 0;
 };
 
+/* Whose servant a loop asks: the one of an object, or that of a key of a family, if there is one. */
+template <class Interface>
+std::function<Interface*(Octets)> always(Interface* servant) {
+  return [servant](Octets) { return servant; };
+}
+
 /* What a loop has performed for an operation: arguments that are none of their types, or pass the limit of the servant,
- * are answered MARSHAL. */
-template <class Operation, class Call>
-Loop::Servant performer(const Servant& servant, Call call) {
-  return [&servant, call](Asked& asked) -> Done {
+ * are answered MARSHAL; where there is no servant, OBJECT_NOT_EXIST. */
+template <class Operation, class Interface, class Call>
+Loop::Servant performer(std::function<Interface*(Octets)> servant_of, Call call) {
+  return [servant_of, call](Asked& asked) -> Done {
+    Interface* const servant = servant_of(asked.key());
+    if (servant == nullptr) return asked.refuse(SystemException::object_not_exist);
     typename Operation::_arguments::Values values{};
     Reader in = asked.arguments();
-    if (servant._limit != 0) in.limit(servant._limit);
+    if (servant->_limit != 0) in.limit(servant->_limit);
     if (!Operation::_arguments::read(in, values)) return asked.refuse(SystemException::marshal);
     Asking<Operation> asking(asked);
-    return std::apply([&](const auto&... one) { return call(asking, one...); }, values);
+    return std::apply([&](const auto&... one) { return call(*servant, asking, one...); }, values);
   };
 }
 

@@ -1,4 +1,4 @@
-"""Tests objects that come and go while they are called, by the loops in C and C++.
+"""Tests objects that come and go while they are called, by the loops in C and C++, and by what is made of IDL.
 
 What is under way on an object that is taken away ends by its own outcome, and is performed once.
 """
@@ -13,7 +13,8 @@ from collections.abc import Callable
 
 from tests import base
 from tests.embed.durable import ENDLESS, located
-from tests.embed.idl_test import EMBED, EXAMPLES, SECONDS, compiled, lr, serving
+from tests.embed import idl_rust_test
+from tests.embed.idl_test import EMBED, EXAMPLES, FOLDER, SECONDS, backend, compiled, lr, made, serving
 from tests.programs import needs
 
 SANITIZED = ["-g", "-fsanitize=address,undefined", "-fno-sanitize-recover=all", "-pthread"]
@@ -80,6 +81,56 @@ class TakenAway(unittest.TestCase):
         with serving(program()) as reference:
             address = lr.Ior.parse(reference).addresses[0]
             asyncio.run(taken_away(self, address.host, address.port))
+
+
+MARKET = """
+interface Session { long more(); long bye(); };
+interface Market { Session login(in boolean is_of_family); };
+"""
+
+
+def market_in_cpp() -> list[str]:
+    made("market", MARKET)
+    backend(os.path.join(FOLDER.name, "market.idl"), "cpp")
+    return [compiled("g++", "market", os.path.join(EMBED, "market.cpp"), flags=SANITIZED)]
+
+
+def market_in_rust() -> list[str]:
+    with open(os.path.join(EMBED, "market.rs"), encoding="utf-8") as file:
+        folder = idl_rust_test.KIT.package("market", file.read(), market=MARKET)
+    return [idl_rust_test.KIT.built(folder, "market")]
+
+
+async def came_and_went(test: unittest.TestCase, client: lr.Client, is_of_family: bool) -> None:
+    """A session that a factory makes, and that ends itself."""
+    ior = lr.Ior.of_value(await client.call("market", "login", "?", (is_of_family,), lr.REFERENCE))
+    key = ior.addresses[0].key
+    test.assertEqual([await client.call(key, "more", results="l") for _ in range(2)], [1, 2])
+    test.assertTrue(await client.call(key, "_is_a", "s", ("IDL:Session:1.0",), "?"))
+    test.assertEqual(await client.call(key, "bye", results="l"), 2)
+    for gone in (key, key + b"0"):
+        with test.assertRaises(lr.SystemException) as caught:
+            test.fail(await client.call(gone, "more", results="l"))
+        test.assertEqual((caught.exception.name, caught.exception.completed), ("OBJECT_NOT_EXIST", lr.Completed.NO))
+
+
+@needs("g++", "cargo", "cargo-clippy", "omniidl")
+class ByIdl(unittest.TestCase):
+    """Objects that come and go, by what is made of IDL."""
+
+    @base.each({"C++": market_in_cpp, "Rust": market_in_rust}.items)
+    def test_sessions(self, program: Callable[[], list[str]]) -> None:
+        """A factory makes an object while the server serves, by itself or of a family; it is called, and ends itself."""
+        async def main() -> None:
+            process = await asyncio.create_subprocess_exec(*program(), stdout=asyncio.subprocess.PIPE)
+            assert process.stdout is not None
+            async with lr.Client.of((await process.stdout.readline()).decode().strip()) as client:
+                for is_of_family in (False, True, False):
+                    await came_and_went(self, client, is_of_family)
+            if process.returncode is None:
+                process.terminate()
+            await process.wait()
+        asyncio.run(main())
 
 
 if __name__ == "__main__":
