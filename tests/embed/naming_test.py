@@ -25,7 +25,8 @@ def name_service() -> Iterator[str]:
     port = str(free_port())
     with tempfile.TemporaryDirectory() as folder:
         words = [tool("omniNames"), "-start", port, "-always", "-logdir", folder, "-errlog", os.path.join(folder, "errors")]
-        process = subprocess.Popen([*words, "-ORBendPoint", f"giop:tcp:127.0.0.1:{port}"], stdout=subprocess.DEVNULL)
+        process = subprocess.Popen([*words, "-ORBendPoint", f"giop:tcp:127.0.0.1:{port}"], stdout=subprocess.DEVNULL,
+                                   stderr=subprocess.DEVNULL)
         try:
             until(lambda: is_there(port), "omniNames listens")
             yield port
