@@ -122,6 +122,8 @@ def members_of(one: model.Declared) -> List[str]:
         lines += ["", f"static {LR}Done _{verb}({head}) {{"]
         for index, (member, type) in enumerate(fields):
             call = f"{codec(type)}::{verb}({'in' if verb == 'read' else 'out'}, value.{member})"
+            if verb == "write":
+                call = f'out.within("{one.members[index][0]}", {call})'
             lines.append(f"  {LR}Done done = {call};" if index == 0 else f"  if (done) done = {call};")
         lines += ["  return done;" if fields else "  return {};", "}"]
     return lines
@@ -179,8 +181,8 @@ def union(one: model.Union, unit: model.Unit) -> List[str]:
               f"static {LR}Done _write({LR}GrowingWriter& out, const {name}& value) {{",
               f"  const {LR}Done done = {codec(one.switch)}::write(out, value._label);", "  if (!done) return done;",
               "  switch (value._value.index()) {"]
-    lines += [f"    case {number}: return {codec(case.type)}::write(out, *std::get_if<{number}>(&value._value));"
-              for number, case in enumerate(one.cases, 1)]
+    lines += [f'    case {number}: return out.within("{case.name}", {codec(case.type)}::write(out, '
+              f"*std::get_if<{number}>(&value._value)));" for number, case in enumerate(one.cases, 1)]
     types = ", ".join(["std::monostate", *(value(case.type) for case in one.cases)])
     lines += ["    default: return done;", "  }", "}"]
     hidden = [*index_of(one), "", f"{switch} _label{{}};", f"std::variant<{types}> _value;"]
@@ -214,6 +216,8 @@ def traits(operation: model.Operation) -> List[str]:
             f"  using _raises = {IDL}Raises<{raises}>;",
             f"  using _outcome = {outcome};",
             f"  static constexpr std::array<std::uint8_t, {len(codes)}> _types{{{', '.join(codes)}}};",
+            f"  static constexpr std::array<const char*, {len(operation.arguments)}> _parameters{{"
+            f"{', '.join(model.quoted(name) for name, _ in operation.arguments)}}};",
             f"  static _outcome _result(_results::Values values) {{ return {{{held}::of(std::move(values))}}; }}", "};"]
 
 
@@ -256,17 +260,25 @@ def servant(one: model.Interface) -> List[str]:
         asking = f"{IDL}Asking<{path(one.scope)}::_ops::{identifier(operation.name)}>& call"
         lines.append(f"virtual {LR}Done {method_of(operation)}({', '.join([asking, *parameters(operation)])}) = 0;")
     ids = ", ".join(f"{path(each.scope)}::_id" for each in (one, *one.all_bases))
-    lines += ["", "/* Puts it on offer under a key, before the loop is opened. */",
-              f"{LR}Done _offer({LR}Loop& loop, {LR}Octets key) {{", f"  {LR}Done done = loop.object(key, {{{ids}}});"]
+    lines += ["", "/* Puts it on offer under a key, also while the loop serves; loop.remove(key) takes it away. */",
+              f"{LR}Done _offer({LR}Loop& loop, {LR}Octets key) {{", f"  {LR}Done done = loop.object(key, {{{ids}}});",
+              f"  return done ? _offer_operations(loop, key, {IDL}always(this)) : done;", "}",
+              "/* Puts those on offer whose keys begin so, before the loop is opened: the servant of a key, or null where",
+              " * there is no such object. */", f"static {LR}Done _offer_family({LR}Loop& loop, {LR}Octets prefix,",
+              f"    std::function<{name}*({LR}Octets)> servant_of) {{", f"  {LR}Done done = loop.family(prefix, {{{ids}}},",
+              f"      [servant_of]({LR}Octets key) {{ return servant_of(key) != nullptr; }});",
+              "  return done ? _offer_operations(loop, prefix, servant_of) : done;", "}", "", "private:",
+              f"static {LR}Done _offer_operations([[maybe_unused]] {LR}Loop& loop, [[maybe_unused]] {LR}Octets key,",
+              f"    [[maybe_unused]] std::function<{name}*({LR}Octets)> servant_of) {{", f"  {LR}Done done;"]
     for interface in (*reversed(one.all_bases), one):
         for operation in interface.operations:
-            lines += indented(offered(interface, operation))
+            lines += indented(offered(interface, operation, name))
     heads = ", ".join(f"public virtual {poa(base.scope)}" for base in one.bases) or f"public virtual {IDL}Servant"
     return [f"class {name} : {heads} {{", " public:", *indented(lines + ["  return done;", "}"]), "};", ""]
 
 
-def offered(interface: model.Interface, operation: model.Operation) -> List[str]:
-    """The lines that put an operation on offer."""
+def offered(interface: model.Interface, operation: model.Operation, name: str) -> List[str]:
+    """The lines that put an operation of a servant of this name on offer."""
     lines = []
     if not model.is_raw(operation):
         for raised in operation.raises:
@@ -277,8 +289,8 @@ def offered(interface: model.Interface, operation: model.Operation) -> List[str]
     call = "raw_operation" if model.is_raw(operation) else "operation"
     ops = f"{path(interface.scope)}::_ops::{identifier(operation.name)}"
     return [*lines, "if (done)", f'  done = loop.{call}(key, "{operation.name}"{types},',
-            f"      {IDL}performer<{ops}>([this](auto& call, const auto&... one) {{",
-            f"        return this->{method_of(operation)}(call, one...);", "      }));"]
+            f"      {IDL}performer<{ops}, {name}>(servant_of, [](auto& servant, auto& call, const auto&... one) {{",
+            f"        return servant.{method_of(operation)}(call, one...);", "      }));"]
 
 
 def body_of(one: model.Declared, unit: model.Unit, is_inner: bool) -> List[str]:
