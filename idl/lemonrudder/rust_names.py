@@ -9,6 +9,8 @@ for gen if impl in let loop macro match mod move mut override priv pub ref retur
 try type typeof unsafe unsized use virtual where while yield Self""".split())
 # .. which can't be r#keyword
 ALWAYS = {"crate", "self", "super", "Self"}
+# the functions that a stub has itself
+OF_STUBS = {"new"}
 PRIMITIVES = set("bool char f32 f64 i8 i16 i32 i64 i128 isize str u8 u16 u32 u64 u128 usize".split())
 
 
@@ -55,15 +57,17 @@ def servant_name(one: model.Interface) -> str:
 def method_of(operation: model.Operation) -> str:
     """The method for an operation: of an attribute its name, and behind `set_` where it is set."""
     if operation.attribute is None:
-        return snake(operation.name)
-    return snake(f"set_{operation.attribute}" if operation.arguments else operation.attribute)
+        name = snake(operation.name)
+    else:
+        name = snake(f"set_{operation.attribute}" if operation.is_setter else operation.attribute)
+    return f"{name}_" if name in OF_STUBS else name
 
 
 def marker_of(operation: model.Operation) -> str:
     """The type that stands for an operation."""
     if operation.attribute is None:
         return camel(operation.name)
-    return camel(operation.attribute + ("_setter" if operation.arguments else "_getter"))
+    return camel(operation.attribute + ("_setter" if operation.is_setter else "_getter"))
 
 
 def raised_names(operation: model.Operation) -> List[str]:
@@ -125,6 +129,8 @@ def check(unit: model.Unit) -> None:
     """Raises Refused where two names of the file would be one in Rust."""
     names = Names()
     for one in unit.here:
+        if isinstance(one, model.Forward):
+            continue
         names.declaration(one)
         names.parts(one, parts_of(one))
         if isinstance(one, model.Interface):

@@ -8,6 +8,7 @@ import re
 from typing import Dict, List, Tuple
 
 from . import model
+from .macros import MACROS
 
 KEYWORDS = set("""alignas alignof and and_eq asm auto bitand bitor bool break case catch char char16_t char32_t char8_t
 class co_await co_return co_yield compl concept const const_cast consteval constexpr constinit continue decltype default
@@ -26,11 +27,16 @@ HEAD = """/* Made of {file} by omniidl -blemonrudder -Wbcpp. Not to be changed b
 #define {guard}
 
 #include "lemonrudder_idl.hpp"
+{includes}
+{version}
 """
+# what would hide the namespaces that what is made stands on
+NAMESPACES = {"std", "lemonrudder"}
 
 
 def identifier(name: str) -> str:
-    return f"_cxx_{name}" if name in KEYWORDS else name
+    is_taken = name in KEYWORDS or name in NAMESPACES or name in MACROS or re.fullmatch(r"LR_\w+|LEMONRUDDER_\w*", name)
+    return f"_cxx_{name}" if is_taken else name
 
 
 def path(scope: Tuple[str, ...]) -> str:
@@ -218,8 +224,8 @@ def traits(operation: model.Operation) -> List[str]:
 
 
 def method_of(operation: model.Operation) -> str:
-    """The method for an operation: of an attribute its name."""
-    return identifier(operation.attribute or operation.name)
+    """The method for an operation: of an attribute its name, but where it has no types."""
+    return identifier(operation.name if operation.is_octets else operation.attribute or operation.name)
 
 
 def parameters(operation: model.Operation) -> List[str]:
@@ -230,17 +236,27 @@ def stub(one: model.Interface, unit: model.Unit) -> List[str]:
     name = identifier(one.name)
     lines = [f'static constexpr const char* _id = "{one.id}";', *inner_of(one, unit), "struct _ops {"]
     for operation in one.operations:
-        lines += indented(traits(operation))
-    bases = "".join(f", {path(base.scope)}(caller)" for base in one.bases)
-    keyed = "".join(f", {path(base.scope)}(caller, key)" for base in one.bases)
+        lines += indented(traits(operation)) if not operation.is_octets else []
+    # (all bases are virtual)
+    bases = "".join(f", {path(base.scope)}(caller)" for base in one.constructed)
+    keyed = "".join(f", {path(base.scope)}(caller, key)" for base in one.constructed)
     lines += ["};", "", f"explicit {name}({IDL}Caller& caller) : {IDL}Stub(caller){bases} {{}}",
               f"{name}({IDL}Caller& caller, {LR}Octets key) : {IDL}Stub(caller, key){keyed} {{}}"]
     for operation in one.operations:
+        if operation.is_octets:
+            lines += stub_of_octets(operation)
+            continue
         ops, names = f"_ops::{identifier(operation.name)}", [identifier(inner) for inner, _ in operation.arguments]
         lines += [f"{ops}::_outcome {method_of(operation)}({', '.join(parameters(operation))}) const {{",
                   f"  return _call<{ops}>({', '.join(names)});", "}"]
     heads = ", ".join(f"public virtual {path(base.scope)}" for base in one.bases) or f"public virtual {IDL}Stub"
     return [f"class {name} : {heads} {{", " public:", *indented(lines), "};", ""]
+
+
+def stub_of_octets(operation: model.Operation) -> List[str]:
+    """The method for an operation without types."""
+    return [f"{LR}Result<{IDL}Reply> {method_of(operation)}(const {LR}GrowingWriter& body) const {{",
+            f'  return _call_octets("{operation.name}", {str(operation.is_oneway).lower()}, body);', "}"]
 
 
 def poa(scope: Tuple[str, ...]) -> str:
@@ -253,14 +269,18 @@ def servant(one: model.Interface) -> List[str]:
     name = poa(one.scope).rpartition("::")[2]
     lines: List[str] = []
     for operation in one.operations:
-        asking = f"{IDL}Asking<{path(one.scope)}::_ops::{identifier(operation.name)}>& call"
+        asked = f"{IDL}Asking<{path(one.scope)}::_ops::{identifier(operation.name)}>"
+        asking = f"{LR}Asked& _call" if operation.is_octets else f"{asked}& _call"
         lines.append(f"virtual {LR}Done {method_of(operation)}({', '.join([asking, *parameters(operation)])}) = 0;")
     ids = ", ".join(f"{path(each.scope)}::_id" for each in (one, *one.all_bases))
     lines += ["", "/* Puts it on offer under a key, before the loop is opened. */",
               f"{LR}Done _offer({LR}Loop& loop, {LR}Octets key) {{", f"  {LR}Done done = loop.object(key, {{{ids}}});"]
-    for interface in (*reversed(one.all_bases), one):
-        for operation in interface.operations:
-            lines += indented(offered(interface, operation))
+    lines += [f"  if (done) done = {poa(interface.scope)}::_operations(loop, key);" for interface in (*one.constructed, one)]
+    lines += ["  return done;", "}", "", "/* .. those of its operations that it does not inherit. */",
+              f"{LR}Done _operations([[maybe_unused]] {LR}Loop& loop, [[maybe_unused]] {LR}Octets key) {{",
+              f"  {LR}Done done;"]
+    for operation in one.operations:
+        lines += indented(offered(one, operation))
     heads = ", ".join(f"public virtual {poa(base.scope)}" for base in one.bases) or f"public virtual {IDL}Servant"
     return [f"class {name} : {heads} {{", " public:", *indented(lines + ["  return done;", "}"]), "};", ""]
 
@@ -268,6 +288,9 @@ def servant(one: model.Interface) -> List[str]:
 def offered(interface: model.Interface, operation: model.Operation) -> List[str]:
     """The lines that put an operation on offer."""
     lines = []
+    if operation.is_octets:
+        called = f"[this]({LR}Asked& call) {{ return this->{method_of(operation)}(call); }}"
+        return [f'if (done) done = loop.raw_operation(key, "{operation.name}", {called});']
     if not model.is_raw(operation):
         for raised in operation.raises:
             codes = ", ".join(model.codes_of(raised.members))
@@ -293,6 +316,8 @@ def body_of(one: model.Declared, unit: model.Unit, is_inner: bool) -> List[str]:
         return union(one, unit)
     if isinstance(one, model.Interface):
         return stub(one, unit)
+    if isinstance(one, model.Forward):
+        return [f"{'struct' if isinstance(one.of, model.Struct) else 'class'} {identifier(one.name)};", ""]
     return struct(one, unit)
 
 
@@ -305,14 +330,27 @@ def within(scope: Tuple[str, ...], prefix: str, lines: List[str]) -> List[str]:
     return [f"namespace {opened} {{", "", *lines, f"}}  // namespace {opened}", ""]
 
 
+def check(unit: model.Unit) -> None:
+    """Raises Refused where two names of the file would be one."""
+    names = model.Names("C++")
+    for one in unit.whole:
+        names.take(path(one.scope), one)
+        if isinstance(one, model.Interface):
+            names.take(poa(one.scope), one)
+
+
+def header_name(base: str) -> str:
+    return re.sub(r"\W", "_", base) + "_idl.hpp"
+
+
 def files_of(unit: model.Unit) -> Dict[str, str]:
-    base = re.sub(r"\W", "_", unit.base)
-    guard = f"{base.upper()}_IDL_HPP"
-    lines = [HEAD.format(file=os.path.basename(unit.file), guard=guard)]
-    others = dict.fromkeys(model.base_of(one.file) for one in unit.declarations if not one.is_here)
-    lines += [*(f'#include "{re.sub(chr(92) + "W", "_", other)}_idl.hpp"' for other in others), ""]
-    holders = {one.scope for one in unit.declarations if isinstance(one, (model.Interface, model.Struct, model.Union))}
-    holders |= {one.scope for one in unit.declarations if isinstance(one, model.Exceptional)}
+    check(unit)
+    made = header_name(unit.base)
+    guard = made.upper().replace(".", "_")
+    includes = "".join(f'#include "{header_name(other)}"\n' for other in unit.used_files)
+    lines = [HEAD.format(file=os.path.basename(unit.file), guard=guard, includes=includes, version=model.IS_VERSION)]
+    types = (model.Interface, model.Struct, model.Union, model.Exceptional)
+    holders = {one.scope for one in unit.declarations if isinstance(one, types)}
     for one in unit.here:
         if one.scope[:-1] in holders:
             continue
@@ -320,4 +358,4 @@ def files_of(unit: model.Unit) -> Dict[str, str]:
         if isinstance(one, model.Interface):
             lines += within(one.scope[:-1], "POA_", servant(one))
     with open(os.path.join(os.path.dirname(__file__), "lemonrudder_idl.hpp"), encoding="ascii") as file:
-        return {f"{base}_idl.hpp": "\n".join([*lines, f"#endif  // {guard}", ""]), "lemonrudder_idl.hpp": file.read()}
+        return {made: "\n".join([*lines, f"#endif  // {guard}", ""]), "lemonrudder_idl.hpp": file.read()}

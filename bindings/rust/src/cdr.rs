@@ -27,6 +27,8 @@ fn index(place: &lr_place) -> usize {
 pub struct Reader<'a> {
     octets: &'a [u8],
     place: lr_place,
+    /// How deep in others the sequences stand that are read.
+    pub(crate) depth: u8,
 }
 
 macro_rules! readers {
@@ -57,7 +59,7 @@ impl<'a> Reader<'a> {
     #[must_use]
     pub fn at(octets: &'a [u8], order: Order, place: u64) -> Reader<'a> {
         let place = lr_place { at: place, order: order.number(), ..lr_place::default() };
-        Reader { octets, place }
+        Reader { octets, place, depth: 0 }
     }
 
     readers! {
@@ -175,7 +177,7 @@ impl<'a> Reader<'a> {
         };
         done(answer)?;
         let octets = self.part(start, length)?;
-        Ok(Reader { octets, place })
+        Ok(Reader { octets, place, depth: self.depth })
     }
 
     /// A part of the octets, which the library named.
@@ -183,6 +185,12 @@ impl<'a> Reader<'a> {
         let (start, length) = (error::size(start)?, error::size(length)?);
         let after = self.octets.get(start..).ok_or(Error::Short)?;
         after.get(..length).ok_or(Error::Short)
+    }
+
+    /// All the octets, and the place of the first one; none are left.
+    pub(crate) fn all(&mut self) -> (&'a [u8], u64) {
+        self.place.next = self.octets.len() as u64;
+        (self.octets, self.place.at)
     }
 
     /// The octets that are left.
@@ -214,6 +222,8 @@ impl<'a> Reader<'a> {
 pub struct Writer {
     octets: Vec<u8>,
     place: lr_place,
+    /// How deep in others the sequences stand that are written.
+    pub(crate) depth: u8,
 }
 
 macro_rules! writers {
@@ -238,7 +248,7 @@ impl Writer {
     #[must_use]
     pub const fn new(order: Order) -> Writer {
         let place = lr_place { at: 0, next: 0, order: order.number(), reserved: 0 };
-        Writer { octets: Vec::new(), place }
+        Writer { octets: Vec::new(), place, depth: 0 }
     }
 
     /// Writes what is in an encapsulation, beginning with its octet of the byte order. It goes into
