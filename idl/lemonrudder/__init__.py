@@ -28,6 +28,7 @@ def run(tree, args):
     unknown = [word for word in languages if word not in LANGUAGES]
     if unknown:
         sys.exit(f"omniidl: lemonrudder: no language: {', '.join(unknown)}; there are {', '.join(LANGUAGES)}")
+    before = os.getcwd()
     try:
         unit = model.unit_of(tree, PARTIAL in args)
         for folder in folders:
@@ -40,3 +41,4 @@ def run(tree, args):
         sys.exit("\n".join(refused.lines))
     for name, text in files.items():
         model.written(name, text)
+    os.chdir(before)

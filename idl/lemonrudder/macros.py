@@ -181,5 +181,5 @@ pthread_cleanup_pop_restore_np pthread_cleanup_push pthread_cleanup_push_defer_n
 sa_handler sa_sigaction sched_priority si_addr si_addr_lsb si_arch si_band si_call_addr si_fd si_int si_lower
 si_overrun si_pid si_pkey si_ptr si_status si_stime si_syscall si_timerid si_uid si_upper si_utime si_value
 sigev_notify_attributes sigev_notify_function sigmask st_atime st_ctime st_mtime stderr stdin stdout strdupa strndupa
-unix
+unix va_arg va_copy va_end va_start
 """.split())

@@ -119,15 +119,15 @@ def members_of(one: model.Declared) -> List[str]:
     name, fields = identifier(one.name), [(identifier(member), type) for member, type in one.members]
     lines = [f"{value(type)} {member}{{}};" for member, type in fields]
     if fields and isinstance(one, model.Struct):
-        same = " && ".join(f"one.{member} == two.{member}" for member, _ in fields)
-        lines += ["", f"friend bool operator==(const {name}& one, const {name}& two) {{", f"  return {same};", "}"]
-    for verb, head in (("read", f"{LR}Reader& in, {name}& value"),
-                       ("write", f"{LR}GrowingWriter& out, const {name}& value")):
+        same = " && ".join(f"_one.{member} == _two.{member}" for member, _ in fields)
+        lines += ["", f"friend bool operator==(const {name}& _one, const {name}& _two) {{", f"  return {same};", "}"]
+    for verb, head in (("read", f"{LR}Reader& _in, {name}& _one"),
+                       ("write", f"{LR}GrowingWriter& _out, const {name}& _one")):
         if not fields:
             head = re.sub(r" \w+(,|$)", r"\1", head)
         lines += ["", f"static {LR}Done _{verb}({head}) {{"]
         for index, (member, type) in enumerate(fields):
-            call = f"{codec(type)}::{verb}({'in' if verb == 'read' else 'out'}, value.{member})"
+            call = f"{codec(type)}::{verb}({'_in' if verb == 'read' else '_out'}, _one.{member})"
             lines.append(f"  {LR}Done done = {call};" if index == 0 else f"  if (done) done = {call};")
         lines += ["  return done;" if fields else "  return {};", "}"]
     return lines
@@ -174,18 +174,18 @@ def union(one: model.Union, unit: model.Unit) -> List[str]:
                   f"void {member}({held} value) {{",
                   f"  _label = {literal(model.first_value(one, case), one.switch)};",
                   f"  _value.emplace<{number}>(std::move(value));", "}"]
-    lines += ["", f"friend bool operator==(const {name}& one, const {name}& two) {{",
-              "  return one._label == two._label && one._value == two._value;", "}", "",
-              f"static {LR}Done _read({LR}Reader& in, {name}& value) {{", f"  {switch} label{{}};",
-              f"  {LR}Done done = {codec(one.switch)}::read(in, label);", "  if (!done) return done;",
-              "  value._d(label);", "  switch (value._value.index()) {"]
-    lines += [f"    case {number}: done = {codec(case.type)}::read(in, *std::get_if<{number}>(&value._value)); break;"
+    lines += ["", f"friend bool operator==(const {name}& _one, const {name}& _two) {{",
+              "  return _one._label == _two._label && _one._value == _two._value;", "}", "",
+              f"static {LR}Done _read({LR}Reader& _in, {name}& _one) {{", f"  {switch} label{{}};",
+              f"  {LR}Done done = {codec(one.switch)}::read(_in, label);", "  if (!done) return done;",
+              "  _one._d(label);", "  switch (_one._value.index()) {"]
+    lines += [f"    case {number}: done = {codec(case.type)}::read(_in, *std::get_if<{number}>(&_one._value)); break;"
               for number, case in enumerate(one.cases, 1)]
     lines += ["    default: break;", "  }", "  return done;", "}", "",
-              f"static {LR}Done _write({LR}GrowingWriter& out, const {name}& value) {{",
-              f"  const {LR}Done done = {codec(one.switch)}::write(out, value._label);", "  if (!done) return done;",
-              "  switch (value._value.index()) {"]
-    lines += [f"    case {number}: return {codec(case.type)}::write(out, *std::get_if<{number}>(&value._value));"
+              f"static {LR}Done _write({LR}GrowingWriter& _out, const {name}& _one) {{",
+              f"  const {LR}Done done = {codec(one.switch)}::write(_out, _one._label);", "  if (!done) return done;",
+              "  switch (_one._value.index()) {"]
+    lines += [f"    case {number}: return {codec(case.type)}::write(_out, *std::get_if<{number}>(&_one._value));"
               for number, case in enumerate(one.cases, 1)]
     types = ", ".join(["std::monostate", *(value(case.type) for case in one.cases)])
     lines += ["    default: return done;", "  }", "}"]

@@ -37,6 +37,7 @@ pub use {made}::*;
     clippy::module_inception,
     clippy::new_ret_no_self,
     clippy::result_large_err,
+    clippy::self_named_constructors,
     clippy::should_implement_trait,
     clippy::too_many_arguments,
     clippy::type_complexity,

@@ -38,7 +38,7 @@ TYPES, VALUES = 24, 12
 # .. and of those that go through C++, which compiles slowly
 CPP_TYPES = 4
 LANGUAGES = ("python", "cpp", "c", "rust", "types")
-ORB = ["-lomniORB4", "-lomnithread"]
+ORB = ["-lomniDynamic4", "-lomniORB4", "-lomnithread"]
 EMBED = os.path.join(ROOT, "tests", "embed")
 EXAMPLES = os.path.join(ROOT, "examples")
 FOLDER = tempfile.TemporaryDirectory(prefix="idl")
