@@ -204,8 +204,21 @@ struct reader {
   const void *octets;
   size_t size;
   lr_place *place;
+  uint64_t *left; /* how much memory values may take yet, or NULL where they own none */
   unsigned depth; /* of sequences in sequences */
 };
+
+/* How much memory the values of so many octets may take. */
+static uint64_t limit_of(uint64_t limit, size_t size) {
+  return limit != 0 ? limit : UINT64_C(65536) + UINT64_C(16) * size;
+}
+
+/* Takes so much of it. */
+static int64_t claim(const struct reader *in, uint64_t size) {
+  if (size > *in->left) return LR_E_VALUE;
+  *in->left -= size;
+  return LR_OK;
+}
 
 /* Reads a value into one that is all zero. At an error it owns what was read of it. */
 static int64_t get_value(const struct reader *in, const lr_idl_type *type, void *value);
@@ -229,7 +242,7 @@ static int64_t get_text(const struct reader *in, const lr_idl_type *type, void *
   uint64_t start, length;
   int64_t done = lr_get_string(in->octets, in->size, in->place, &start, &length);
   if (done < 0) return done;
-  if (type->count != 0 && length > type->count) return LR_E_VALUE;
+  if ((type->count != 0 && length > type->count) || claim(in, length + 1) < 0) return LR_E_VALUE;
   char *text = malloc((size_t)length + 1);
   if (text == NULL) return LR_E_MEMORY;
   memcpy(text, (const char *)in->octets + start, (size_t)length);
@@ -242,7 +255,7 @@ static int64_t get_octets(const struct reader *in, const lr_idl_type *type, void
   uint64_t start, length;
   int64_t done = lr_get_octets(in->octets, in->size, in->place, &start, &length);
   if (done < 0 || length == 0) return done;
-  if (type->count != 0 && length > type->count) return LR_E_VALUE;
+  if ((type->count != 0 && length > type->count) || claim(in, length) < 0) return LR_E_VALUE;
   struct sequence some = {(uint32_t)length, malloc((size_t)length)};
   if (some.buffer == NULL) return LR_E_MEMORY;
   memcpy(some.buffer, (const unsigned char *)in->octets + start, (size_t)length);
@@ -251,10 +264,11 @@ static int64_t get_octets(const struct reader *in, const lr_idl_type *type, void
 }
 
 /* Makes room for more members of a sequence, so many in all at most, which are all zero. (It grows by what is read, as
- * octets that are none may say any count.) */
+ * octets that are none may say any count.) LR_E_VALUE: there is room for so many. */
 static int64_t widen(struct sequence *some, uint32_t *room, uint32_t most, size_t size) {
   uint32_t more = *room > most / 2 ? most : *room == 0 ? 8 : 2 * *room;
   if (more > most) more = most;
+  if (more == *room) return LR_E_VALUE;
   if (more > SIZE_MAX / size) return LR_E_MEMORY;
   void *buffer = realloc(some->buffer, more * size);
   if (buffer == NULL) return LR_E_MEMORY;
@@ -264,15 +278,23 @@ static int64_t widen(struct sequence *some, uint32_t *room, uint32_t most, size_
   return LR_OK;
 }
 
+/* How many members a sequence may have, of which it has some: as many as it says, or there is memory for. */
+static uint32_t most_of(const struct reader *in, uint32_t count, uint32_t length, size_t size) {
+  const uint64_t more = size == 0 ? UINT32_MAX : *in->left / size;
+  return more < count - length ? length + (uint32_t)more : count;
+}
+
 static int64_t get_sequence(const struct reader *in, const lr_idl_type *type, void *value) {
   struct sequence some = {0, NULL};
+  const size_t size = type->inner->size;
   uint32_t count = 0, room = 0;
-  const struct reader deeper = {in->octets, in->size, in->place, in->depth + 1};
+  const struct reader deeper = {in->octets, in->size, in->place, in->left, in->depth + 1};
   int64_t done = deeper.depth > DEPTH ? LR_E_VALUE : lr_get_ulong(in->octets, in->size, in->place, &count);
   if (done == LR_OK && type->count != 0 && count > type->count) return LR_E_VALUE;
   while (done == LR_OK && some.length < count) {
-    if (some.length == room) done = widen(&some, &room, count, type->inner->size);
-    if (done == LR_OK) done = get_value(&deeper, type->inner, part_of(some.buffer, some.length++ * type->inner->size));
+    if (some.length == room) done = widen(&some, &room, most_of(in, count, some.length, size), size);
+    if (done == LR_OK) done = claim(in, size);
+    if (done == LR_OK) done = get_value(&deeper, type->inner, part_of(some.buffer, some.length++ * size));
   }
   memcpy(value, &some, sizeof some);
   return done;
@@ -337,15 +359,21 @@ static int64_t get_value(const struct reader *in, const lr_idl_type *type, void 
   }
 }
 
-int64_t lr_idl_get(const lr_idl_type *type, const void *octets, size_t size, lr_place *place, void *value) {
-  struct reader in = {octets, size, place, 0};
-  lr_place before = *place;
+/* .. as a whole: at an error nothing is read. */
+static int64_t get_whole(const struct reader *in, const lr_idl_type *type, void *value) {
+  lr_place before = *in->place;
   memset(value, 0, type->size);
-  int64_t done = get_value(&in, type, value);
+  int64_t done = get_value(in, type, value);
   if (done == LR_OK) return LR_OK;
   lr_idl_free(type, value);
-  *place = before;
+  *in->place = before;
   return done;
+}
+
+int64_t lr_idl_get(const lr_idl_type *type, const void *octets, size_t size, lr_place *place, void *value) {
+  uint64_t left = limit_of(0, size);
+  struct reader in = {octets, size, place, &left, 0};
+  return get_whole(&in, type, value);
 }
 
 /* ---- writing ---- */
@@ -646,7 +674,8 @@ int64_t lr_idl_perform(const lr_idl_offer *offer, lr_server *server, const lr_re
   } else {
     const lr_idl_method *method = method_of(offer->interface, octets, name_size);
     lr_place place = {asked->body_at, 0, asked->body_order, 0};
-    struct reader in = {octets + name_size, body_size, &place, 0};
+    uint64_t left = limit_of(offer->limit, body_size);
+    struct reader in = {octets + name_size, body_size, &place, &left, 0};
     done = method == NULL ? LR_E_NONE : perform_by(method, offer->servant, &call, &in);
   }
   free(octets);
@@ -762,7 +791,7 @@ static int64_t get_address(const struct reader *in, uint64_t *host, uint64_t *si
 /* Adds the address that a component has, which is an encapsulation. One that is none says nothing. */
 static int64_t add_alternate(lr_idl_road *road, const struct profile *one, const unsigned char *octets, size_t size) {
   lr_place place = {0, 1, size == 0 ? 2 : octets[0], 0};
-  struct reader in = {octets, size, &place, 0};
+  struct reader in = {octets, size, &place, NULL, 0};
   uint64_t host, length;
   uint16_t port;
   if (get_address(&in, &host, &length, &port) < 0) return LR_OK;
@@ -798,7 +827,7 @@ static int64_t get_profile(struct profile *one) {
 /* Adds the addresses of a profile of IIOP. One that is none says nothing. */
 static int64_t add_profile(lr_idl_road *road, const lr_idl_octet__sequence *data) {
   lr_place place = {0, 1, data->_length == 0 ? 2 : data->_buffer[0], 0};
-  struct profile one = {.in = {data->_buffer, data->_length, &place, 0}};
+  struct profile one = {.in = {data->_buffer, data->_length, &place, NULL, 0}};
   if (get_profile(&one) < 0) return LR_OK;
   int64_t done = add_of(road, &one, data->_buffer + one.host, one.host_size, one.port);
   return done < 0 || one.minor == 0 ? done : add_components(road, &one);
@@ -827,6 +856,13 @@ static uint64_t now(void) {
   struct timespec time;
   clock_gettime(CLOCK_REALTIME, &time);
   return lr_moment((uint64_t)time.tv_sec, (uint32_t)time.tv_nsec);
+}
+
+/* What passed by a clock that nobody sets, in 100 ns. */
+static uint64_t passed(void) {
+  struct timespec time;
+  clock_gettime(CLOCK_MONOTONIC, &time);
+  return (uint64_t)time.tv_sec * LR_SECOND + (uint64_t)time.tv_nsec / 100;
 }
 
 static lr_idl_road *road_of(lr_idl_caller *caller) { return caller->is_led ? &caller->led : &caller->home; }
@@ -926,6 +962,14 @@ static uint64_t patience_of(const lr_idl_caller *caller, const lr_idl_road *road
   return road->count == 1 || share < most ? share : most;
 }
 
+/* Whether the address that is asked has said nothing for too long, and there is another way: another address, or the
+ * one to where a call was led from. */
+static bool is_mute(lr_idl_caller *caller) {
+  const lr_idl_road *road = road_of(caller);
+  const uint64_t most = caller->answer_timeout == 0 ? caller->patience / road->count : caller->answer_timeout;
+  return caller->is_sent && (caller->is_led || road->count > 1) && passed() - caller->since >= most;
+}
+
 /* Connects with the address that is to be asked. False where that fails. */
 static bool call_up(lr_idl_caller *caller) {
   const lr_idl_road *road = road_of(caller);
@@ -955,6 +999,7 @@ static bool send_due(lr_idl_caller *caller) {
   while ((size = lr_client_output(&caller->client, room, sizeof room)) > 0) {
     caller->is_sent = true;
     if (!send_all(caller->fd, room, (size_t)size)) return false;
+    caller->since = passed();
   }
   return size == 0;
 }
@@ -968,17 +1013,25 @@ static bool resend(lr_idl_caller *caller) {
   return false;
 }
 
-/* Sends what is due, and takes what comes, for a while. False where the connection is over. */
-static bool talk(lr_idl_caller *caller) {
+/* Takes what comes within so many ms: 1, or 0 where that is nothing; -1 where the connection is over. */
+static int hear(lr_idl_caller *caller, int within) {
   unsigned char room[PIECE];
-  if (!send_due(caller)) return false;
   struct pollfd waits = {caller->fd, POLLIN, 0};
-  int ready = poll(&waits, 1, WAIT);
-  if (ready == 0) return resend(caller);
-  if (ready < 0) return errno == EINTR;
+  int ready = poll(&waits, 1, within);
+  if (ready <= 0) return ready == 0 || errno == EINTR ? 0 : -1;
   ssize_t count = recv(caller->fd, room, sizeof room, 0);
+  caller->since = passed();
   return count > 0 && lr_client_feed(&caller->client, room, (size_t)count) >= 0 &&
-         lr_client_is_connected(&caller->client) == 1;
+                 lr_client_is_connected(&caller->client) == 1
+             ? 1
+             : -1;
+}
+
+/* Takes what comes, for a while. False where the connection is over, or left for the next address. */
+static bool talk(lr_idl_caller *caller) {
+  int heard = hear(caller, WAIT);
+  if (heard != 0) return heard > 0;
+  return !is_mute(caller) && resend(caller);
 }
 
 /* The completion of a call: 1, or 0 where it is pending. */
@@ -1003,13 +1056,14 @@ struct tries {
   long delay;
 };
 
-/* Leaves an address for the next one, but for one that had answered on this connection. After each connection, and after
- * a round of addresses, it waits. False where a call was led to where nobody answers. */
+/* Leaves an address for the next one, but for one that had answered on this connection and was lost. After each
+ * connection, and after a round of addresses, it waits. False where a call was led to where nobody answers. */
 static bool move_on(lr_idl_caller *caller, struct tries *tries) {
   lr_idl_road *road = road_of(caller);
-  const bool was_there = caller->fd >= 0, was_heard = caller->is_heard;
+  const bool was_mute = caller->fd >= 0 && is_mute(caller), was_there = caller->fd >= 0 && !was_mute;
+  const bool was_heard = caller->is_heard;
   hang_up(caller);
-  if (was_heard) return true;
+  if (was_heard && !was_mute) return true;
   road->next = (road->next + 1) % road->count;
   tries->failed = was_there ? 0 : tries->failed + 1;
   if (caller->is_led && tries->failed == road->count) return false;
@@ -1017,15 +1071,21 @@ static bool move_on(lr_idl_caller *caller, struct tries *tries) {
   return true;
 }
 
-/* Waits until a call has ended. AGAIN: nobody answers where it was led, and it is not pending there any more. */
+/* Waits until a call has ended. AGAIN: nobody answers where it was led, or it is oneway and could not be sent; and it
+ * is not pending any more. */
 static int64_t settle(lr_idl_caller *caller, int64_t call, lr_completion *ended) {
   struct tries tries = {0, FIRST_DELAY};
   for (;;) {
     int64_t done = lr_client_tick(&caller->client, now());
+    /* (a oneway call has ended as soon as it is due: so what is due is sent first) */
+    bool is_well = caller->fd < 0 || send_due(caller);
     if (done == LR_OK) done = completed(caller, call, ended);
-    if (done != 0) return done < 0 ? done : LR_OK;
-    if (caller->fd >= 0 ? talk(caller) : call_up(caller)) continue;
-    if (move_on(caller, &tries)) continue;
+    if (done < 0) return done;
+    if (done == 1 && (is_well || ended->how != LR_ENDED_SENT)) return LR_OK;
+    if (done == 0 && is_well && (caller->fd >= 0 ? talk(caller) : call_up(caller))) continue;
+    const bool goes_on = move_on(caller, &tries);
+    if (goes_on && done == 0) continue;
+    if (goes_on) return AGAIN;
     done = lr_client_cancel(&caller->client, call);
     forget(caller);
     return done < 0 ? done : AGAIN;
@@ -1109,6 +1169,8 @@ static int64_t make_call(const lr_idl_object *object, const lr_idl_operation *op
   for (unsigned hops = 0;; hops++) {
     if (hops > 2) wait_longer(&delay);
     int64_t done = turn_to(object, last);
+    /* (of a oneway call nobody would hear that its connection is over) */
+    if (operation->is_oneway && caller->fd >= 0 && hear(caller, 0) < 0) hang_up(caller);
     if (done == LR_OK) done = call_by(object, operation, out, expiration);
     if (done == LR_E_EXPIRED && hops > 0) {
       *ended = (lr_completion){.how = LR_ENDED_EXPIRED};
@@ -1165,7 +1227,7 @@ static int64_t take_exception(const lr_idl_operation *operation, const struct re
   raised->members = malloc(exception->type->size);
   if (raised->members == NULL) return LR_E_MEMORY;
   raised->exception = exception;
-  done = lr_idl_get(exception->type, in->octets, in->size, in->place, raised->members);
+  done = get_whole(in, exception->type, raised->members);
   if (done == LR_OK && in->place->next != in->size) done = LR_E_VALUE;
   return done < 0 ? done : LR_ENDED_RAISED;
 }
@@ -1220,7 +1282,8 @@ static int64_t take_ended(const lr_idl_object *object, const lr_idl_operation *o
   unsigned char *octets = body_of(object->caller, ended);
   if (octets == NULL) return LR_E_MEMORY;
   lr_place place = {ended->body_at, 0, ended->body_order, 0};
-  struct reader in = {octets, (size_t)ended->body_size, &place, 0};
+  uint64_t left = limit_of(object->caller->limit, (size_t)ended->body_size);
+  struct reader in = {octets, (size_t)ended->body_size, &place, &left, 0};
   int64_t done = take(operation, ended->how, &in, arguments, results, raised);
   free(octets);
   /* (the next call of the key is asked for at home) */

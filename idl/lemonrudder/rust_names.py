@@ -9,8 +9,6 @@ for gen if impl in let loop macro match mod move mut override priv pub ref retur
 try type typeof unsafe unsized use virtual where while yield Self""".split())
 # .. which can't be r#keyword
 ALWAYS = {"crate", "self", "super", "Self"}
-# the functions that a stub has itself
-OF_STUBS = {"new"}
 PRIMITIVES = set("bool char f32 f64 i8 i16 i32 i64 i128 isize str u8 u16 u32 u64 u128 usize".split())
 
 
@@ -57,10 +55,8 @@ def servant_name(one: model.Interface) -> str:
 def method_of(operation: model.Operation) -> str:
     """The method for an operation: of an attribute its name, and behind `set_` where it is set."""
     if operation.attribute is None:
-        name = snake(operation.name)
-    else:
-        name = snake(f"set_{operation.attribute}" if operation.is_setter else operation.attribute)
-    return f"{name}_" if name in OF_STUBS else name
+        return snake(operation.name)
+    return snake(f"set_{operation.attribute}" if operation.is_setter else operation.attribute)
 
 
 def marker_of(operation: model.Operation) -> str:

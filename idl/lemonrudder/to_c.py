@@ -395,7 +395,7 @@ def interface(one: model.Interface) -> List[str]:
         for operation in base.operations:
             lines += [f"#define {stub_of(one, operation)}{end} {stub_of(base, operation)}{end}"
                       for end in ("", "__answer", "__operation")]
-    offer = f"lr_idl_offer _offer = {{_key, _key_size, &{name}__interface, _servant}}"
+    offer = f"lr_idl_offer _offer = {{_key, _key_size, &{name}__interface, _servant, 0}}"
     return [*lines, "", *servant_struct(one), "/* A servant under a key, for lr_idl_add and lr_idl_perform. */",
             *function(f"lr_idl_offer {poa(one)}__offer(const {poa(one)} *_servant, const void *_key, size_t _key_size)",
                       f"{offer};\n  return _offer")]

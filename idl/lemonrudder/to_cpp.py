@@ -128,6 +128,8 @@ def members_of(one: model.Declared) -> List[str]:
         lines += ["", f"static {LR}Done _{verb}({head}) {{"]
         for index, (member, type) in enumerate(fields):
             call = f"{codec(type)}::{verb}({'_in' if verb == 'read' else '_out'}, _one.{member})"
+            if verb == "write":
+                call = f'_out.within("{one.members[index][0]}", {call})'
             lines.append(f"  {LR}Done done = {call};" if index == 0 else f"  if (done) done = {call};")
         lines += ["  return done;" if fields else "  return {};", "}"]
     return lines
@@ -185,8 +187,8 @@ def union(one: model.Union, unit: model.Unit) -> List[str]:
               f"static {LR}Done _write({LR}GrowingWriter& _out, const {name}& _one) {{",
               f"  const {LR}Done done = {codec(one.switch)}::write(_out, _one._label);", "  if (!done) return done;",
               "  switch (_one._value.index()) {"]
-    lines += [f"    case {number}: return {codec(case.type)}::write(_out, *std::get_if<{number}>(&_one._value));"
-              for number, case in enumerate(one.cases, 1)]
+    lines += [f'    case {number}: return _out.within("{case.name}", {codec(case.type)}::write(_out, '
+              f"*std::get_if<{number}>(&_one._value)));" for number, case in enumerate(one.cases, 1)]
     types = ", ".join(["std::monostate", *(value(case.type) for case in one.cases)])
     lines += ["    default: return done;", "  }", "}"]
     hidden = [*index_of(one), "", f"{switch} _label{{}};", f"std::variant<{types}> _value;"]
@@ -220,6 +222,8 @@ def traits(operation: model.Operation) -> List[str]:
             f"  using _raises = {IDL}Raises<{raises}>;",
             f"  using _outcome = {outcome};",
             f"  static constexpr std::array<std::uint8_t, {len(codes)}> _types{{{', '.join(codes)}}};",
+            f"  static constexpr std::array<const char*, {len(operation.arguments)}> _parameters{{"
+            f"{', '.join(model.quoted(name) for name, _ in operation.arguments)}}};",
             f"  static _outcome _result(_results::Values values) {{ return {{{held}::of(std::move(values))}}; }}", "};"]
 
 
@@ -273,24 +277,38 @@ def servant(one: model.Interface) -> List[str]:
         asking = f"{LR}Asked& _call" if operation.is_octets else f"{asked}& _call"
         lines.append(f"virtual {LR}Done {method_of(operation)}({', '.join([asking, *parameters(operation)])}) = 0;")
     ids = ", ".join(f"{path(each.scope)}::_id" for each in (one, *one.all_bases))
-    lines += ["", "/* Puts it on offer under a key, before the loop is opened. */",
-              f"{LR}Done _offer({LR}Loop& loop, {LR}Octets key) {{", f"  {LR}Done done = loop.object(key, {{{ids}}});"]
-    lines += [f"  if (done) done = {poa(interface.scope)}::_operations(loop, key);" for interface in (*one.constructed, one)]
-    lines += ["  return done;", "}", "", "/* .. those of its operations that it does not inherit. */",
-              f"{LR}Done _operations([[maybe_unused]] {LR}Loop& loop, [[maybe_unused]] {LR}Octets key) {{",
-              f"  {LR}Done done;"]
+    lines += ["", "/* Puts it on offer under a key, also while the loop serves; loop.remove(key) takes it away. */",
+              f"{LR}Done _offer({LR}Loop& loop, {LR}Octets key) {{", f"  {LR}Done done = loop.object(key, {{{ids}}});",
+              f"  return done ? _offer_operations(loop, key, {IDL}always(this)) : done;", "}",
+              "/* Puts those on offer whose keys begin so, before the loop is opened: the servant of a key, or null where",
+              " * there is no such object. */", f"static {LR}Done _offer_family({LR}Loop& loop, {LR}Octets prefix,",
+              f"    std::function<{name}*({LR}Octets)> servant_of) {{", f"  {LR}Done done = loop.family(prefix, {{{ids}}},",
+              f"      [servant_of]({LR}Octets key) {{ return servant_of(key) != nullptr; }});",
+              "  return done ? _offer_operations(loop, prefix, servant_of) : done;", "}", "", "protected:",
+              *offering("_offer_own", name)]
     for operation in one.operations:
-        lines += indented(offered(one, operation))
+        lines += indented(offered(one, operation, name))
+    lines += ["  return done;", "}", "", "private:", *offering("_offer_operations", name)]
+    lines += [f"  if (done) done = {poa(base.scope)}::_offer_own(loop, key, servant_of);" for base in one.constructed]
+    lines += ["  if (done) done = _offer_own(loop, key, servant_of);", "  return done;", "}"]
     heads = ", ".join(f"public virtual {poa(base.scope)}" for base in one.bases) or f"public virtual {IDL}Servant"
-    return [f"class {name} : {heads} {{", " public:", *indented(lines + ["  return done;", "}"]), "};", ""]
+    return [f"class {name} : {heads} {{", " public:", *indented(lines), "};", ""]
 
 
-def offered(interface: model.Interface, operation: model.Operation) -> List[str]:
-    """The lines that put an operation on offer."""
+def offering(function: str, name: str) -> List[str]:
+    """The head of a function that puts operations of a servant on offer."""
+    return [f"static {LR}Done {function}([[maybe_unused]] {LR}Loop& loop, [[maybe_unused]] {LR}Octets key,",
+            f"    [[maybe_unused]] const std::function<{name}*({LR}Octets)>& servant_of) {{", f"  {LR}Done done;"]
+
+
+def offered(interface: model.Interface, operation: model.Operation, name: str) -> List[str]:
+    """The lines that put an operation of a servant of this name on offer."""
     lines = []
     if operation.is_octets:
-        called = f"[this]({LR}Asked& call) {{ return this->{method_of(operation)}(call); }}"
-        return [f'if (done) done = loop.raw_operation(key, "{operation.name}", {called});']
+        return [f'if (done) done = loop.raw_operation(key, "{operation.name}", [servant_of]({LR}Asked& call) {{',
+                "  auto* const servant = servant_of(call.key());",
+                f"  return servant != nullptr ? servant->{method_of(operation)}(call)",
+                f"                            : call.refuse({LR}SystemException::object_not_exist);", "});"]
     if not model.is_raw(operation):
         for raised in operation.raises:
             codes = ", ".join(model.codes_of(raised.members))
@@ -300,8 +318,8 @@ def offered(interface: model.Interface, operation: model.Operation) -> List[str]
     call = "raw_operation" if model.is_raw(operation) else "operation"
     ops = f"{path(interface.scope)}::_ops::{identifier(operation.name)}"
     return [*lines, "if (done)", f'  done = loop.{call}(key, "{operation.name}"{types},',
-            f"      {IDL}performer<{ops}>([this](auto& call, const auto&... one) {{",
-            f"        return this->{method_of(operation)}(call, one...);", "      }));"]
+            f"      {IDL}performer<{ops}, {name}>(servant_of, [](auto& servant, auto& call, const auto&... one) {{",
+            f"        return servant.{method_of(operation)}(call, one...);", "      }));"]
 
 
 def body_of(one: model.Declared, unit: model.Unit, is_inner: bool) -> List[str]:

@@ -223,7 +223,8 @@ def record(one: model.Declared, at: At) -> List[str]:
     """A struct or an exception."""
     name, fields = camel(one.name), [(snake(member), type) for member, type in one.members]
     read = [f"{field}: _idl::read::<{codec(type, at)}>(reader)?," for field, type in fields]
-    write = [f"_idl::write::<{codec(type, at)}>(writer, &value.{field})?;" for field, type in fields]
+    write = [f"_idl::write_in::<{codec(type, at)}>(writer, {quoted(member)}, &value.{field})?;"
+             for (field, type), (member, _) in zip(fields, one.members)]
     return [f"/// `{one.idl}`", DERIVES,
             *block(f"pub struct {name} {{", [f"pub {field}: {value(type, at)}," for field, type in fields]), "",
             *codec_impl(name, [f"Ok({name} {{", *indented(read), "})"], [*write, "Ok(())"])]
@@ -309,7 +310,8 @@ def is_other(one: model.Union, variant: Variant, patterns: List[str]) -> str:
 def write_arm(one: model.Union, variant: Variant, patterns: List[str], at: At) -> List[str]:
     """How a variant is written."""
     lines, put = [], f"_idl::write::<{codec(one.switch, at)}>(writer, "
-    held = "" if variant.case is None else f"_idl::write::<{codec(variant.case.type, at)}>(writer, value)"
+    held = "" if variant.case is None else (
+        f"_idl::write_in::<{codec(variant.case.type, at)}>(writer, {quoted(variant.case.name)}, value)")
     if variant.count == 1 and variant.case is not None:
         label = literal(model.first_value(one, variant.case), one.switch, at)
         return block(f"Self::{variant.name}(value) => {{", [f"{put}&{label})?;", held])
@@ -440,9 +442,9 @@ def operation_type(operation: model.Operation, at: At) -> List[str]:
         return type_of_octets(operation)
     name, raised = marker_of(operation), list(zip(raised_names(operation), operation.raises))
     mut = "mut " if operation.arguments else ""
-    write = [f"_idl::write::<{codec(type, at)}>(&mut _writer, {'&' if is_plain(type) else ''}{snake(inner)})?;"
-             for inner, type in operation.arguments]
-    head = f"pub fn arguments({', '.join(arguments_of(operation, at))}) -> _idl::Result<_Writer, _Error> {{"
+    write = [f"_idl::argument::<{codec(type, at)}>(&mut _writer, {quoted(operation.name)}, {quoted(inner)}, "
+             f"{'&' if is_plain(type) else ''}{snake(inner)})?;" for inner, type in operation.arguments]
+    head = f"pub fn arguments({', '.join(arguments_of(operation, at))}) -> _idl::Result<_Writer, _idl::Refused> {{"
     lines = [f"/// `{operation.name}`, and the exceptions that it raises.", DERIVES,
              *block(f"pub enum {name} {{", [f"{variant}({at.type(one)})," for variant, one in raised]), "",
              *block(f"impl {name} {{", [
@@ -470,9 +472,15 @@ def stub_of_octets(operation: model.Operation, ops: str) -> List[str]:
                    f"-> _idl::Result<_idl::Body, _idl::Failure<{ops}>> {{", ["self._object.call(body)"]), ""]
 
 
+def constructor_of(one: model.Interface) -> str:
+    """What makes the stub of an object: `new`, or `new_` where an operation has that name."""
+    taken = {method_of(operation) for _, operation in all_operations(one)}
+    return "new_" if "new" in taken else "new"
+
+
 def stub(one: model.Interface, at: At) -> List[str]:
     name = camel(one.name)
-    made, methods = ["Self { _object: object }"], []
+    methods: List[str] = []
     for interface, operation in all_operations(one):
         ops = at.path(interface, module(interface.name), "ops", marker_of(operation))
         if operation.is_octets:
@@ -487,11 +495,12 @@ def stub(one: model.Interface, at: At) -> List[str]:
     return [f"/// `{one.idl}`, as a client calls it.", "#[derive(Clone, Debug)]",
             *block(f"pub struct {name}<_C> {{", ["_object: _idl::Object<_C>,"]), "",
             *block(f"impl<_C> {name}<_C> {{", [
-                "/// The interface of an object.", "#[must_use]",
-                *block("pub fn new(object: _idl::Object<_C>) -> Self {", made)]), "",
+                "/// The stub of an object, whose interface is not looked at.", "#[must_use]",
+                *block(f"pub const fn {constructor_of(one)}(object: _idl::Object<_C>) -> Self {{",
+                       ["Self { _object: object }"])]), "",
             *block(f"impl<_C: _idl::Calls> {name}<_C> {{", methods[:-1]), "",
             *block(f"impl<_C> ::core::convert::From<_idl::Object<_C>> for {name}<_C> {{",
-                   block("fn from(object: _idl::Object<_C>) -> Self {", made)), "",
+                   block("fn from(object: _idl::Object<_C>) -> Self {", ["Self { _object: object }"])), "",
             *block(f"impl<_C> ::core::convert::From<{name}<_C>> for _idl::Object<_C> {{",
                    block(f"fn from(stub: {name}<_C>) -> Self {{", ["stub._object"])), "",
             *block(f"impl<_C> ::core::convert::AsMut<_idl::Object<_C>> for {name}<_C> {{",

@@ -350,7 +350,7 @@ struct Names { std inner; string s; };
 struct _in { long value; };
 struct one { _in two; };
 union _out switch (long) { case 1: one label; };
-interface Traits { void into(in long x); void from(in long x); void new(in long x); };
+interface Traits { void into(in long x); void from(in long x); void new(in long x); void clone(); };
 interface Shadows { void f(in long POLLIN, out More Numbers); void g(in long name); };
 // types that hold themselves
 struct S;

@@ -19,8 +19,8 @@ pub use body::Body;
 #[cfg(feature = "std")]
 pub use caller::Caller;
 pub use codec::{
-    read, write, Array, Boolean, Char, Codec, Double, Float, Long, LongLong, Octet, Octets,
-    Sequence, Short, Text, Typed, ULong, ULongLong, UShort,
+    argument, read, write, write_in, Array, Boolean, Char, Codec, Double, Float, Long, LongLong,
+    Octet, Octets, Refused, Sequence, Short, Text, Typed, ULong, ULongLong, UShort,
 };
 pub use object::{call, outcome, Calls, Failure, Object, SystemRaised};
 pub use reference::Reference;
