@@ -315,8 +315,11 @@ def package(name: str, module: str, lines: List[str]) -> Tuple[str, str]:
         if not text.startswith(PACKAGE):
             raise model.Refused([f"{path}: it is there, and was not made by omniidl -blemonrudder"])
         mine = f"from {module} import "
-        before = [line for line in text[len(PACKAGE):].splitlines() if line and not line.startswith(mine)]
-    return path, PACKAGE + "\n".join(dict.fromkeys(before + lines)) + "\n"
+        before = [line for line in text.splitlines() if line.startswith("from ") and not line.startswith(mine)]
+    lines = list(dict.fromkeys(before + lines))
+    # (its last word is the name in the package)
+    names = dict.fromkeys(line.split()[-1] for line in lines)
+    return path, "\n".join([PACKAGE + "\n".join(lines), "", "__all__ = [", *(f'    "{name}",' for name in names), "]", ""])
 
 
 def packages_of(unit: model.Unit) -> Dict[str, str]:

@@ -231,7 +231,7 @@ async def put(deep: Deep, number: int) -> None:
         print((await deep.put(lr.pack("Ll", TK_LONG, number))).unpack("Ll")[1])
     except lr.UserException as raised:
         assert raised.body is not None
-        print("missing", raised.body.unpack("ss")[1])
+        print("missing", raised.body.unpack("s")[0])
 
 
 async def ask(reference: str) -> None:
@@ -316,7 +316,8 @@ class Store(unittest.TestCase):
         """Sequences stand in each other 64 deep, and no deeper."""
         async with lr.Client.of(lr.Ior.parse(reference)) as client:
             for depth, wanted in ((63, None), (64, "MARSHAL"), (50000, "MARSHAL")):
-                body = lr.pack("sL" * depth + "sL", *["a", 1] * depth, "b", 0)
+                # (a text, and a sequence of one; in big endian, which is what a call of octets is in)
+                body = b"\0\0\0\2a\0\0\0\0\0\0\1" * depth + b"\0\0\0\2b\0\0\0\0\0\0\0"
                 try:
                     self.assertEqual(len((await client.call_raw(client.key, "keep", body)).octets), len(body))
                     found = None
