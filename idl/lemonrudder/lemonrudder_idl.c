@@ -45,6 +45,12 @@ static const lr_idl_member reference_members[] = {
     {&profiles_type, offsetof(lr_idl_reference, profiles), 0, false}};
 const lr_idl_type lr_idl_reference__type = {LR_IDL_STRUCT, 2, sizeof(lr_idl_reference), NULL, reference_members};
 
+static const lr_idl_member body_members[] = {{&octets_type, offsetof(lr_idl_body, octets), 0, false}};
+const lr_idl_type lr_idl_body__type = {LR_IDL_BODY, 1, sizeof(lr_idl_body), NULL, body_members};
+
+/* How deep sequences stand in sequences. */
+enum { DEPTH = 64 };
+
 /* ---- values ---- */
 
 /* (Pointers to any type are laid out alike, and copied as octets, since they have many types.) */
@@ -109,7 +115,7 @@ static void free_struct(const lr_idl_type *type, void *value) {
 static void free_value(const lr_idl_type *type, void *value) {
   if (type->kind == LR_IDL_STRING) free(text_at(value));
   if (type->kind == LR_IDL_ARRAY) free_members(type->inner, type->count, value);
-  if (type->kind == LR_IDL_STRUCT) free_struct(type, value);
+  if (type->kind == LR_IDL_STRUCT || type->kind == LR_IDL_BODY) free_struct(type, value);
   if (type->kind == LR_IDL_SEQUENCE) {
     struct sequence some = sequence_at(value);
     if (some.buffer != NULL) free_members(type->inner, some.length, some.buffer);
@@ -168,7 +174,14 @@ static int64_t copy_struct(const lr_idl_type *type, const void *from, void *to) 
   return done;
 }
 
+static int64_t copy_body(const lr_idl_body *from, lr_idl_body *to) {
+  to->order = from->order;
+  to->at = from->at;
+  return copy_sequence(&lr_idl_octet__type, &from->octets, &to->octets);
+}
+
 static int64_t copy_value(const lr_idl_type *type, const void *from, void *to) {
+  if (type->kind == LR_IDL_BODY) return copy_body(from, to);
   if (type->kind == LR_IDL_STRING) return copy_text(from, to);
   if (type->kind == LR_IDL_SEQUENCE) return copy_sequence(type->inner, from, to);
   if (type->kind == LR_IDL_ARRAY) return copy_members(type->inner, type->count, from, to);
@@ -192,6 +205,7 @@ struct reader {
   size_t size;
   lr_place *place;
   uint64_t *left; /* how much memory values may take yet, or NULL where they own none */
+  unsigned depth; /* of sequences in sequences */
 };
 
 /* How much memory the values of so many octets may take. */
@@ -274,12 +288,13 @@ static int64_t get_sequence(const struct reader *in, const lr_idl_type *type, vo
   struct sequence some = {0, NULL};
   const size_t size = type->inner->size;
   uint32_t count = 0, room = 0;
-  int64_t done = lr_get_ulong(in->octets, in->size, in->place, &count);
+  const struct reader deeper = {in->octets, in->size, in->place, in->left, in->depth + 1};
+  int64_t done = deeper.depth > DEPTH ? LR_E_VALUE : lr_get_ulong(in->octets, in->size, in->place, &count);
   if (done == LR_OK && type->count != 0 && count > type->count) return LR_E_VALUE;
   while (done == LR_OK && some.length < count) {
     if (some.length == room) done = widen(&some, &room, most_of(in, count, some.length, size), size);
     if (done == LR_OK) done = claim(in, size);
-    if (done == LR_OK) done = get_value(in, type->inner, part_of(some.buffer, some.length++ * size));
+    if (done == LR_OK) done = get_value(&deeper, type->inner, part_of(some.buffer, some.length++ * size));
   }
   memcpy(value, &some, sizeof some);
   return done;
@@ -306,6 +321,20 @@ static int64_t get_union(const struct reader *in, const lr_idl_type *type, void 
   return member == NULL ? LR_OK : get_value(in, member->type, part_of(value, member->offset));
 }
 
+/* All octets that are left. */
+static int64_t get_body(const struct reader *in, lr_idl_body *body) {
+  const size_t next = (size_t)in->place->next, left = in->size - next;
+  body->order = in->place->order;
+  body->at = in->place->at + next;
+  if (left == 0) return LR_OK;
+  body->octets._buffer = malloc(left);
+  if (body->octets._buffer == NULL) return LR_E_MEMORY;
+  memcpy(body->octets._buffer, (const unsigned char *)in->octets + next, left);
+  body->octets._length = (uint32_t)left;
+  in->place->next = in->size;
+  return LR_OK;
+}
+
 static int64_t get_value(const struct reader *in, const lr_idl_type *type, void *value) {
   const void *octets = in->octets;
   switch (type->kind) {
@@ -325,6 +354,7 @@ static int64_t get_value(const struct reader *in, const lr_idl_type *type, void 
     case LR_IDL_SEQUENCE: return (type->inner->kind == LR_IDL_OCTET ? get_octets : get_sequence)(in, type, value);
     case LR_IDL_ARRAY: return get_array(in, type, value);
     case LR_IDL_STRUCT: return get_struct(in, type, value);
+    case LR_IDL_BODY: return get_body(in, value);
     default: return get_union(in, type, value);
   }
 }
@@ -342,7 +372,7 @@ static int64_t get_whole(const struct reader *in, const lr_idl_type *type, void 
 
 int64_t lr_idl_get(const lr_idl_type *type, const void *octets, size_t size, lr_place *place, void *value) {
   uint64_t left = limit_of(0, size);
-  struct reader in = {octets, size, place, &left};
+  struct reader in = {octets, size, place, &left, 0};
   return get_whole(&in, type, value);
 }
 
@@ -352,6 +382,7 @@ struct writer {
   void *room;
   size_t size;
   lr_place *place;
+  unsigned depth; /* of sequences in sequences */
 };
 
 static int64_t put_value(const struct writer *out, const lr_idl_type *type, const void *value);
@@ -381,8 +412,10 @@ static int64_t put_sequence(const struct writer *out, const lr_idl_type *type, c
   if ((type->count != 0 && some.length > type->count) || (some.length > 0 && some.buffer == NULL)) return LR_E_RANGE;
   if (type->inner->kind == LR_IDL_OCTET)
     return lr_put_octets(out->room, out->size, out->place, some.buffer, some.length);
+  const struct writer deeper = {out->room, out->size, out->place, out->depth + 1};
+  if (deeper.depth > DEPTH) return LR_E_RANGE;
   int64_t done = lr_put_ulong(out->room, out->size, out->place, some.length);
-  return done < 0 ? done : put_members(out, type->inner, some.length, some.buffer);
+  return done < 0 ? done : put_members(&deeper, type->inner, some.length, some.buffer);
 }
 
 static int64_t put_struct(const struct writer *out, const lr_idl_type *type, const void *value) {
@@ -397,6 +430,17 @@ static int64_t put_union(const struct writer *out, const lr_idl_type *type, cons
   if (done < 0) return done;
   const lr_idl_member *member = selected(type, value);
   return member == NULL ? LR_OK : put_value(out, member->type, part_of(value, member->offset));
+}
+
+/* All octets of a message, in their order. */
+static int64_t put_body(const struct writer *out, const lr_idl_body *body) {
+  if (out->place->next != 0 || body->at % 8 != 0 || body->order > LR_ORDER_LITTLE) return LR_E_RANGE;
+  if (body->octets._length > 0 && body->octets._buffer == NULL) return LR_E_RANGE;
+  if (body->octets._length > out->size) return LR_E_ROOM;
+  if (body->octets._length > 0) memcpy(out->room, body->octets._buffer, body->octets._length);
+  out->place->next = body->octets._length;
+  out->place->order = body->order;
+  return LR_OK;
 }
 
 static int64_t put_value(const struct writer *out, const lr_idl_type *type, const void *value) {
@@ -418,12 +462,13 @@ static int64_t put_value(const struct writer *out, const lr_idl_type *type, cons
     case LR_IDL_SEQUENCE: return put_sequence(out, type, value);
     case LR_IDL_ARRAY: return put_members(out, type->inner, type->count, value);
     case LR_IDL_STRUCT: return put_struct(out, type, value);
+    case LR_IDL_BODY: return put_body(out, value);
     default: return put_union(out, type, value);
   }
 }
 
 int64_t lr_idl_put(const lr_idl_type *type, void *room, size_t size, lr_place *place, const void *value) {
-  struct writer out = {room, size, place};
+  struct writer out = {room, size, place, 0};
   lr_place before = *place;
   int64_t done = put_value(&out, type, value);
   if (done < 0) *place = before;
@@ -630,7 +675,7 @@ int64_t lr_idl_perform(const lr_idl_offer *offer, lr_server *server, const lr_re
     const lr_idl_method *method = method_of(offer->interface, octets, name_size);
     lr_place place = {asked->body_at, 0, asked->body_order, 0};
     uint64_t left = limit_of(offer->limit, body_size);
-    struct reader in = {octets + name_size, body_size, &place, &left};
+    struct reader in = {octets + name_size, body_size, &place, &left, 0};
     done = method == NULL ? LR_E_NONE : perform_by(method, offer->servant, &call, &in);
   }
   free(octets);
@@ -650,7 +695,7 @@ int64_t lr_idl_answer(const lr_idl_call *call, const lr_idl_operation *operation
   if (done < 0)
     done = answered_by(call, done);
   else if (operation->is_raw)
-    done = lr_server_answer_raw(call->server, call->ticket, LR_REPLY_NO_EXCEPTION, LR_ORDER_BIG, out.octets,
+    done = lr_server_answer_raw(call->server, call->ticket, LR_REPLY_NO_EXCEPTION, out.place.order, out.octets,
                                 (size_t)out.place.next);
   else
     done = lr_server_answer(call->server, call->ticket, LR_ORDER_BIG, out.octets, (size_t)out.place.next);
@@ -746,7 +791,7 @@ static int64_t get_address(const struct reader *in, uint64_t *host, uint64_t *si
 /* Adds the address that a component has, which is an encapsulation. One that is none says nothing. */
 static int64_t add_alternate(lr_idl_road *road, const struct profile *one, const unsigned char *octets, size_t size) {
   lr_place place = {0, 1, size == 0 ? 2 : octets[0], 0};
-  struct reader in = {octets, size, &place, NULL};
+  struct reader in = {octets, size, &place, NULL, 0};
   uint64_t host, length;
   uint16_t port;
   if (get_address(&in, &host, &length, &port) < 0) return LR_OK;
@@ -782,7 +827,7 @@ static int64_t get_profile(struct profile *one) {
 /* Adds the addresses of a profile of IIOP. One that is none says nothing. */
 static int64_t add_profile(lr_idl_road *road, const lr_idl_octet__sequence *data) {
   lr_place place = {0, 1, data->_length == 0 ? 2 : data->_buffer[0], 0};
-  struct profile one = {.in = {data->_buffer, data->_length, &place, NULL}};
+  struct profile one = {.in = {data->_buffer, data->_length, &place, NULL, 0}};
   if (get_profile(&one) < 0) return LR_OK;
   int64_t done = add_of(road, &one, data->_buffer + one.host, one.host_size, one.port);
   return done < 0 || one.minor == 0 ? done : add_components(road, &one);
@@ -1065,7 +1110,7 @@ static int64_t call_by(const lr_idl_object *object, const lr_idl_operation *oper
   const size_t name_size = strlen(operation->name), size = (size_t)out->place.next;
   if (operation->is_raw || operation->is_oneway)
     return lr_client_call_raw(&caller->client, now(), expiration, operation->is_oneway ? LR_WISH_NONE : LR_WISH_FULL,
-                              key, key_size, operation->name, name_size, LR_ORDER_BIG, NULL, 0, out->octets, size);
+                              key, key_size, operation->name, name_size, out->place.order, NULL, 0, out->octets, size);
   return lr_client_call(&caller->client, now(), expiration, key, key_size, operation->name, name_size,
                         operation->arguments.codes, operation->arguments.codes_size, LR_ORDER_BIG, out->octets, size);
 }
@@ -1203,13 +1248,27 @@ static int64_t raise_unreached(const lr_idl_caller *caller, lr_idl_raised *raise
   return raised->id == NULL ? LR_E_MEMORY : LR_ENDED_SYSTEM;
 }
 
+/* Whether the results of an operation are octets. */
+static bool has_body(const lr_idl_operation *operation) {
+  return operation->results.count == 1 && operation->results.types[0]->kind == LR_IDL_BODY;
+}
+
+/* Takes the octets of an exception. */
+static int64_t take_octets(const lr_idl_operation *operation, const struct reader *in, const void *const *arguments,
+                           void *const *results) {
+  int64_t done = take_results(operation, in, arguments, results);
+  return done < 0 ? done : LR_ENDED_RAISED;
+}
+
 /* Takes what came of a call, by its body. */
 static int64_t take(const lr_idl_operation *operation, uint32_t how, const struct reader *in,
                     const void *const *arguments, void *const *results, lr_idl_raised *raised) {
   switch (how) {
     case LR_ENDED_SENT: return LR_OK;
     case LR_ENDED_RETURNED: return take_results(operation, in, arguments, results);
-    case LR_ENDED_RAISED: return take_exception(operation, in, raised);
+    case LR_ENDED_RAISED:
+      return has_body(operation) ? take_octets(operation, in, arguments, results)
+                                 : take_exception(operation, in, raised);
     case LR_ENDED_SYSTEM: return take_system(in, raised);
     case LR_ENDED_EXPIRED: return LR_E_EXPIRED;
     default: return LR_E_OUTCOME;
@@ -1224,7 +1283,7 @@ static int64_t take_ended(const lr_idl_object *object, const lr_idl_operation *o
   if (octets == NULL) return LR_E_MEMORY;
   lr_place place = {ended->body_at, 0, ended->body_order, 0};
   uint64_t left = limit_of(object->caller->limit, (size_t)ended->body_size);
-  struct reader in = {octets, (size_t)ended->body_size, &place, &left};
+  struct reader in = {octets, (size_t)ended->body_size, &place, &left, 0};
   int64_t done = take(operation, ended->how, &in, arguments, results, raised);
   free(octets);
   /* (the next call of the key is asked for at home) */

@@ -10,6 +10,7 @@
  *
  * What is made of the octets of a peer takes at most 65536 octets of memory and 16 times as many as these, or what a
  * `limit` says, 0 where nothing is said: so many octets of members of sequences, texts and octets. LR_E_VALUE beyond.
+ * Sequences stand in sequences 64 deep at most: LR_E_VALUE where they are read, LR_E_RANGE where they are written.
  *
  * Results are those of lemonrudder.h: below 0 an error LR_E_.., and then no value was handed out.
  */
@@ -47,7 +48,8 @@ enum {
   LR_IDL_SEQUENCE,
   LR_IDL_ARRAY,
   LR_IDL_STRUCT,
-  LR_IDL_UNION
+  LR_IDL_UNION,
+  LR_IDL_BODY
 };
 
 typedef struct lr_idl_type lr_idl_type;
@@ -108,6 +110,18 @@ typedef struct { uint32_t _length; uint64_t *_buffer; } lr_idl_ulonglong__sequen
 typedef struct { uint32_t _length; float *_buffer; } lr_idl_float__sequence;
 typedef struct { uint32_t _length; double *_buffer; } lr_idl_double__sequence;
 typedef struct { uint32_t _length; char **_buffer; } lr_idl_string__sequence;
+
+/* The body of a message of an operation whose types can't be made: octets in an order, LR_ORDER_.., the first of which
+ * stands at a place, from which they are aligned. In one that you hand in that is a multiple of 8. */
+typedef struct {
+  uint32_t order;
+  uint64_t at;
+  lr_idl_octet__sequence octets;
+} lr_idl_body;
+
+extern const lr_idl_type lr_idl_body__type;
+
+static inline void lr_idl_body__free(lr_idl_body *body) { lr_idl_free(&lr_idl_body__type, body); }
 
 /* ---- references ---- */
 
@@ -298,7 +312,7 @@ void lr_idl_raised_free(lr_idl_raised *raised);
  * forward to no address), LR_E_MEMORY (it may have been performed). Where no address can be reached as it expires, it
  * ends by TRANSIENT, COMPLETED_NO, or by COMM_FAILURE, COMPLETED_MAYBE, if a connection was lost on which it was sent.
  * `raised` may be NULL; what it held before is freed. A result that goes where an argument stands takes its place; one
- * whose place is NULL is freed. */
+ * whose place is NULL is freed. Of an operation of octets the result is the body of an exception too, behind its id. */
 int64_t lr_idl_invoke(const lr_idl_object *object, const lr_idl_operation *operation, const void *const *arguments,
                       void *const *results, lr_idl_raised *raised);
 

@@ -87,7 +87,25 @@ struct String {
   }
 };
 
-/* A sequence of at most so many members, likewise. What is read takes no more memory than Reader::limit says. */
+namespace detail {
+
+/* Stands while a sequence is read or written: how many do in this thread, one in another. */
+class Deeper {
+ public:
+  Deeper() noexcept { depth++; }
+  ~Deeper() { depth--; }
+  Deeper(const Deeper&) = delete;
+  Deeper& operator=(const Deeper&) = delete;
+  bool is_ok() const noexcept { return depth <= 64; }
+
+ private:
+  static inline thread_local unsigned depth = 0;
+};
+
+}  // namespace detail
+
+/* A sequence of at most so many members, likewise; and of sequences in sequences at most 64. What is read
+ * takes no more memory than Reader::limit says. */
 template <class Member, std::size_t Bound = 0>
 struct Sequence {
   using Value = std::vector<typename Member::Value>;
@@ -95,6 +113,8 @@ struct Sequence {
     const Count count = in.get_count();
     if (!count) return count.error();
     if (Bound != 0 && *count > Bound) return Error(LR_E_VALUE);
+    const detail::Deeper deeper;
+    if (!deeper.is_ok()) return Error(LR_E_VALUE);
     value.clear();
     for (std::size_t index = 0; index < *count; index++) {
       typename Member::Value one{};
@@ -106,6 +126,8 @@ struct Sequence {
     return {};
   }
   static Done write(GrowingWriter& out, const Value& value) {
+    const detail::Deeper deeper;
+    if (!deeper.is_ok()) return out.refuse("sequences more than 64 deep");
     if (Bound != 0 && value.size() > Bound) return out.refuse(detail::over("sequence", value.size(), Bound));
     const Done done = out.put_count(value.size()).done();
     return done ? detail::write_members<Member>(out, value) : done;
@@ -821,6 +843,13 @@ class Stub {
     }();
     if (!reply) return reply.error();
     return _ended<Operation>(*reply, typename Operation::_raises());
+  }
+
+  /* Calls an operation by the octets of its arguments. */
+  Result<Reply> _call_octets(std::string_view name, bool is_oneway, const GrowingWriter& body) const {
+    if (const Done done = body.done(); !done) return done.error();
+    const Wish wish = is_oneway ? Wish::none : Wish::full;
+    return caller_->call_raw({key_, name, caller_->expiration(), body.octets(), body.order(), wish});
   }
 
  private:

@@ -30,6 +30,8 @@ fn index(place: &lr_place) -> usize {
 pub struct Reader<'a> {
     octets: &'a [u8],
     place: lr_place,
+    /// How deep in others the sequences stand that are read.
+    pub(crate) depth: u8,
     /// How much memory may be taken yet for what is read.
     left: usize,
 }
@@ -67,7 +69,7 @@ impl<'a> Reader<'a> {
     #[must_use]
     pub fn at(octets: &'a [u8], order: Order, place: u64) -> Reader<'a> {
         let place = lr_place { at: place, order: order.number(), ..lr_place::default() };
-        Reader { octets, place, left: usual_limit(octets.len()) }
+        Reader { octets, place, left: usual_limit(octets.len()), depth: 0 }
     }
 
     /// Such a reader, of which it may be said how much memory may be taken.
@@ -212,7 +214,7 @@ impl<'a> Reader<'a> {
         };
         done(answer)?;
         let octets = self.part(start, length)?;
-        Ok(Reader { octets, place, left: usual_limit(octets.len()) })
+        Ok(Reader { octets, place, left: usual_limit(octets.len()), depth: self.depth })
     }
 
     /// A part of the octets, which the library named.
@@ -220,6 +222,12 @@ impl<'a> Reader<'a> {
         let (start, length) = (error::size(start)?, error::size(length)?);
         let after = self.octets.get(start..).ok_or(Error::Short)?;
         after.get(..length).ok_or(Error::Short)
+    }
+
+    /// All the octets, and the place of the first one; none are left.
+    pub(crate) fn all(&mut self) -> (&'a [u8], u64) {
+        self.place.next = self.octets.len() as u64;
+        (self.octets, self.place.at)
     }
 
     /// The octets that are left.
@@ -251,6 +259,8 @@ impl<'a> Reader<'a> {
 pub struct Writer {
     octets: Vec<u8>,
     place: lr_place,
+    /// How deep in others the sequences stand that are written.
+    pub(crate) depth: u8,
     /// Why a value is not written.
     why: String,
 }
@@ -277,7 +287,7 @@ impl Writer {
     #[must_use]
     pub const fn new(order: Order) -> Writer {
         let place = lr_place { at: 0, next: 0, order: order.number(), reserved: 0 };
-        Writer { octets: Vec::new(), place, why: String::new() }
+        Writer { octets: Vec::new(), place, why: String::new(), depth: 0 }
     }
 
     /// Why the value was refused that was to be written last, as by [`idl::write`](crate::idl::write),

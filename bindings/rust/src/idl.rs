@@ -5,6 +5,7 @@
 //! A stub calls by whatever is a [`Calls`], as a [`Caller`] is, which waits for each call on a
 //! socket. Over sockets of your own, [`call`] and [`outcome`] are its two halves.
 
+mod body;
 #[cfg(feature = "std")]
 mod caller;
 mod codec;
@@ -14,6 +15,7 @@ mod reference;
 mod road;
 mod servant;
 
+pub use body::Body;
 #[cfg(feature = "std")]
 pub use caller::Caller;
 pub use codec::{
@@ -90,7 +92,7 @@ pub trait Operation: Debug + Sized {
     fn read_raised(id: &[u8], reader: &mut Reader<'_>) -> Result<Option<Self>, Error>;
 
     /// The repository id of the exception.
-    fn id(&self) -> &'static str;
+    fn id(&self) -> &str;
 
     /// Writes its members.
     ///

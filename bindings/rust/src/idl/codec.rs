@@ -250,7 +250,11 @@ impl<const BOUND: usize> Codec for Octets<BOUND> {
     }
 }
 
-/// A sequence of at most so many members; 0: without a bound.
+/// How deep sequences may stand in sequences.
+const DEPTH: u8 = 64;
+
+/// A sequence of at most so many members; 0: without a bound. Of sequences in sequences there are at
+/// most 64.
 #[derive(Debug)]
 pub struct Sequence<C, const BOUND: usize = 0>(PhantomData<C>);
 
@@ -264,23 +268,31 @@ impl<C: Codec, const BOUND: usize> Codec for Sequence<C, BOUND> {
         if count > reader.rest().len() {
             return Err(Error::Short);
         }
-        if !is_within(count, BOUND) {
+        if !is_within(count, BOUND) || reader.depth == DEPTH {
             return Err(Error::Value);
         }
-        let mut values = Vec::new();
-        for _ in 0..count {
+        reader.depth += 1;
+        let values = (0..count).map(|_| {
             reader.claim(size_of::<C::Value>())?;
-            values.push(C::read(reader)?);
-        }
-        Ok(values)
+            C::read(reader)
+        });
+        let values = values.collect();
+        reader.depth -= 1;
+        values
     }
 
     fn write(writer: &mut Writer, values: &[C::Value]) -> Result<(), Error> {
         if !is_within(values.len(), BOUND) {
             return Err(over(writer, "sequence", values.len(), BOUND));
         }
+        if writer.depth == DEPTH {
+            return Err(writer.refuse(Error::Range, format!("sequences more than {DEPTH} deep")));
+        }
         writer.ulong(u32::try_from(values.len()).map_err(|_| Error::Long)?)?;
-        write_members::<C>(writer, values)
+        writer.depth += 1;
+        let written = write_members::<C>(writer, values);
+        writer.depth -= 1;
+        written
     }
 }
 
