@@ -209,6 +209,36 @@ class OverAModel(unittest.IsolatedAsyncioTestCase):
                 self.model.late = None
                 await self.answers(7, number, "deposit", account, 7)
 
+    async def test_in_doubt_and_forgotten_by_then(self):
+        """What was committed is taken out before the store is asked for it: it may have acted, and that is not kept."""
+        find, far = self.model.find, 1 << 62
+
+        async def forget(key):
+            if self.model.accounts:
+                self.model.outcomes.clear()
+                self.model.least = far
+            return await find(key)
+
+        self.model.find = forget
+        for number, (operation, commits, cents) in enumerate((("deposit", ["lost"], 7), ("deposit", ["fails", "lost"], 7),
+                                                              ("fail_behind", [], 2)), 1):
+            with self.subTest((operation, commits)):
+                self.model.commits, self.model.least = list(commits), 0
+                self.model.accounts.clear()
+                self.assertEqual(await self.ask(number, operation, "a", cents, expiration=far - 1),
+                                 ("BAD_CONTEXT", 0, MAYBE))
+                self.assertEqual((self.model.accounts, self.model.outcomes), ({"a": cents}, {}))
+                # (a repeat has not acted itself)
+                self.assertEqual(await self.ask(number, operation, "a", cents, expiration=far - 1),
+                                 ("BAD_CONTEXT", 0, NO))
+
+    async def test_forgotten_before_it_is_kept(self):
+        """What was performed, and is kept behind it, may have acted, also in an attempt before."""
+        far = 1 << 62
+        self.model.between = lambda: setattr(self.model, "least", far)
+        self.assertEqual(await self.ask(1, "balance", "a", expiration=far - 1), ("BAD_CONTEXT", 0, MAYBE))
+        self.assertEqual((self.model.outcomes, self.bank.performed), ({}, 1))
+
     async def test_another_process_was_quicker(self):
         """What was done meanwhile is undone, and its outcome answered."""
         outcome = lr.Outcome(lr.ReplyStatus.NO_EXCEPTION, lr.LITTLE, (55).to_bytes(8, "little"))

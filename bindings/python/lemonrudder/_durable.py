@@ -5,7 +5,7 @@ import asyncio
 import inspect
 import logging
 from contextvars import ContextVar
-from typing import TYPE_CHECKING, Any, Optional
+from typing import TYPE_CHECKING, Any, Optional, Union
 
 from ._cdr import BIG, pack, results_of
 from ._engine import Asked
@@ -27,10 +27,10 @@ _LONGEST = 1048576
 
 
 class _Attempt:
-    """What a servant stored for its request, if it did; or that the store refused it."""
+    """What a servant stored for its request, if it did; or how the store refused it."""
 
     outcome: Optional[Outcome] = None
-    is_refused = False
+    refused: Union[Kept, Refuse, None] = None
 
 
 _ATTEMPT: ContextVar[_Attempt] = ContextVar("lemonrudder.attempt")
@@ -86,7 +86,8 @@ class Durable:
         what becomes of it, which is committed. Raises Refuse.
 
         What is in doubt, as a COMMIT whose answer was lost, is asked until the store says. Where it has nothing then,
-        the request is performed again: if the old COMMIT comes true yet, the new one can't.
+        the request is performed again: if the old COMMIT comes true yet, the new one can't. Where its outcome may have
+        been taken out meanwhile, nobody knows whether it acted, and the answer is COMPLETED_MAYBE.
         """
         asked, delay, is_in_doubt = judged.asked, _LEAST, False
         for _ in range(_TRIES):
@@ -112,11 +113,14 @@ class Durable:
         return unknown("TRANSIENT")
 
     async def _asked(self, ft: FtRequest) -> Optional[Outcome]:
-        """What the store has of a request; asked until it says."""
+        """What the store has of a request that has perhaps acted; asked until it says."""
         delay = _LEAST
         while True:
             try:
                 return await self.store.find(ft)
+            except Refuse as refused:
+                # (what was committed is perhaps forgotten)
+                return unknown(refused.name)
             except Exception as error:
                 if not self.store.is_trouble(error):
                     raise
@@ -134,7 +138,7 @@ class Durable:
             returned = performer.function(*((asked.body,) if asked.arguments is None else asked.arguments))
             if inspect.isawaitable(returned):
                 returned = await returned
-            if attempt.outcome is not None or attempt.is_refused:
+            if attempt.outcome is not None or attempt.refused is not None:
                 return attempt.outcome
         except Kept:
             return None
@@ -142,7 +146,9 @@ class Durable:
             is_trouble = self.store.is_trouble(error)
             if is_trouble:
                 self._note(error)
-            if attempt.is_refused:
+            if attempt.refused is not None:
+                if isinstance(error, Refuse) and error is attempt.refused and not is_in_doubt:
+                    raise
                 return None
             if attempt.outcome is not None:
                 # (its transaction is undone by what was raised in it, and committed before what was raised behind it;
@@ -187,7 +193,7 @@ class Durable:
                 async with self.store.transaction() as transaction:
                     await self.store.put(transaction, ft, outcome)
                 return outcome
-            except Kept:
+            except (Kept, Refuse):
                 pass
             except Exception as error:
                 if not self.store.is_trouble(error):
@@ -216,10 +222,10 @@ class Durable:
             attempt = _ATTEMPT.get()
             try:
                 await self.store.put(transaction, asked.ft, outcome)
-            except (Kept, Refuse):
-                attempt.is_refused = True
+            except (Kept, Refuse) as refused:
+                attempt.refused = refused
                 raise
-            attempt.outcome, attempt.is_refused = outcome, False
+            attempt.outcome, attempt.refused = outcome, None
         return outcome
 
     def outcome(self, asked: Asked, ended: Any) -> Outcome:
