@@ -473,17 +473,17 @@ NONE_OF_ITS_TYPE = {
     "octets as a str": (lambda n: ("keep", held(n, its_key="four")),
                         TypeError, "keep: what: its_key: 'four' is no array: it is to be bytes"),
     "a number in place of an enum": (lambda n: ("keep", held(n, its_colour=1)),
-                                     TypeError, "keep: what: its_colour: 1 is no Shapes_Colour"),
+                                     TypeError, "keep: what: its_colour: 1 is no Shapes.Colour"),
     "an enum in place of a number": (lambda n: ("keep", held(n, number=n.red)),
-                                     TypeError, "keep: what: number: <Shapes_Colour.red: 0> is no unsigned long long"),
-    "a tuple in place of a struct": (lambda n: ("keep", (1, 2)), TypeError, "keep: what: (1, 2) is no Shapes_Held"),
+                                     TypeError, "keep: what: number: Shapes.Colour.red is no unsigned long long"),
+    "a tuple in place of a struct": (lambda n: ("keep", (1, 2)), TypeError, "keep: what: (1, 2) is no Shapes.Held"),
     "below 0": (lambda n: ("keep", held(n, number=-1)), ValueError, "keep: what: number: -1 is no unsigned long long"),
     "a member of another type": (lambda n: ("draw", n.Mark(n.red, "text")),
-                                 TypeError, "draw: what: at: 'text' is no Shapes_Point"),
+                                 TypeError, "draw: what: at: 'text' is no Shapes.Point"),
     "a value of no member": (lambda n: ("draw", n.Mark(n.None_, "t")), ValueError,
-                             "draw: what: <Shapes_Colour.None_: 2> has no member, and there is a value: 't'"),
+                             "draw: what: Shapes.Colour.None_ has no member, and there is a value: 't'"),
     "a discriminator of another type": (lambda n: ("draw", n.Mark(True, "text")),
-                                        TypeError, "draw: what: _d: True is no Shapes_Colour"),
+                                        TypeError, "draw: what: _d: True is no Shapes.Colour"),
     "a member's range": (lambda n: ("draw", n.Mark(at=n.Point(0, -32769))),
                          ValueError, "draw: what: at: y: -32769 is no short"),
     "a NUL in a string": (lambda n: ("tell", "a\0b"), ValueError, "tell: what: a NUL in the string 'a\\x00b'"),
@@ -548,6 +548,30 @@ class Python(unittest.TestCase):
         own = odd.Own(odd.Odd.value, 1, 2)
         self.assertEqual((own.name, list(own)), (odd.Odd.value, [odd.Odd.value, 1, 2]))
         self.assertEqual(str(odd.Raised(1, 2)), "Raised(_with_traceback=1, _add_note=2)")
+
+    def test_repr(self) -> None:
+        """What is printed of a value makes it anew, where the modules are there."""
+        made("shapes", SHAPES)
+        names = importlib.import_module("Shapes")
+        made("marks", "module Marks { union lambda switch (short) { case 1: case 2: long id; default: string text; }; };")
+        marks = importlib.import_module("Marks")
+        scope = {"Shapes": names, "Marks": marks}
+        for value, text in (
+                (names.Point(1, -2), "Shapes.Point(x=1, y=-2)"),
+                (names.green, "Shapes.Colour.green"),
+                (names.Mark(at=names.Point(1, 2)), "Shapes.Mark(at=Shapes.Point(x=1, y=2))"),
+                (names.Mark(names.None_, None), "Shapes.Mark(Shapes.Colour.None_, None)"),
+                (names.Any_(_from=0.5), "Shapes.Any_(_from=0.5)"),
+                (names.Desk.Inner(5), "Shapes.Desk.Inner(_self=5)"),
+                (names.Full(7, "x", names.red), "Shapes.Full(id=7, _args='x', its_colour=Shapes.Colour.red)"),
+                (marks._lambda(id=5), "Marks._lambda(id=5)"),
+                (marks._lambda(2, 5), "Marks._lambda(2, id=5)"),
+                (marks._lambda(9, text="a"), "Marks._lambda(9, text='a')")):
+            with self.subTest(text):
+                self.assertEqual(repr(value), text)
+                self.assertEqual(eval(text, scope), value)
+        self.assertEqual(str(names.Full(7, "x", names.red)), repr(names.Full(7, "x", names.red)))
+        self.assertRaises(ValueError, marks._lambda, 1, text="a")
 
     def test_packages(self) -> None:
         """Two files may have parts of one module; a package of another origin stays as it is."""

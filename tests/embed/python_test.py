@@ -28,7 +28,7 @@ from tests import base, cases, cdr, giop, rows
 from tests import engine as model
 from tests import engine_model
 from tests.cdr import Octets
-from tests.programs import NEEDS, ROOT, library, needs
+from tests.programs import NEEDS, ROOT, library, needs, tool
 
 if "LEMONRUDDER_LIBRARY" not in os.environ:
     os.environ["LEMONRUDDER_LIBRARY"] = os.path.join(library(), "lib", "liblemonrudder.so")
@@ -3241,9 +3241,18 @@ class Library(Case):
         self.assertEqual((error.number, error.name), (-1000, "LR_E_UNKNOWN"))
         self.assertIn("(-1000)", str(error))
 
+    def test_exceptions_say_what_they_are(self):
+        """In CORBA's terms, also numbers that have no name."""
+        for error, text in ((lr.SystemException("INTERNAL", 0, 2), "INTERNAL, minor 0, COMPLETED_MAYBE"),
+                            (lr.SystemException("IDL:x:1.0", 7), "IDL:x:1.0, minor 7, COMPLETED_NO"),
+                            (lr.SystemException("UNKNOWN", 7, 9), "UNKNOWN, minor 7, COMPLETED_9"),
+                            (lr.Refuse("IMP_LIMIT", 3), "IMP_LIMIT, minor 3, COMPLETED_NO")):
+            self.assertEqual(str(error), text)
+        self.assertEqual(lr.SystemException("INTERNAL", 0, 2).args, ("INTERNAL", 0, lr.Completed.MAYBE))
+
     def test_versions(self):
         """The module takes the versions that scripts/library.py says."""
-        self.assertEqual(".".join(map(str, lr.VERSION)), VERSION)
+        self.assertEqual((".".join(map(str, lr.VERSION)), lr.__version__), (VERSION, VERSION))
         some = [*itertools.product((0, 1, 2), (0, 1, 2), (0, 1, 10))]
         for version, built in itertools.product(some, some):
             texts = [".".join(map(str, each)) for each in (version, built)]
@@ -3339,5 +3348,26 @@ class Library(Case):
         examples = sorted(glob.glob(os.path.join(ROOT, "examples", "*.py")))
         for words in (["--strict", os.path.join(package, "lemonrudder")], ["--ignore-missing-imports", *examples]):
             run = subprocess.run(["mypy", "--cache-dir", os.devnull, *words], env={**os.environ, "MYPYPATH": package},
+                                 capture_output=True, text=True, timeout=SECONDS)
+            self.assertEqual(run.returncode, 0, run.stdout + run.stderr)
+
+    @needs("mypy", "omniidl")
+    def test_types_of_idl(self):
+        """So are those of what is made of IDL, with references, and enumerators named like what an int has."""
+        names = [name for name in dir(int) if not name.startswith("_") and name != "is_integer"]
+        text = f"""
+            enum Kind {{ value, {", ".join(names)} }};
+            interface Named {{ readonly attribute string title; }};
+            struct Pair {{ Kind what; Named who; sequence<double> reals; }};
+            interface Desk : Named {{ Pair get(in Kind what, out Named who); Named find(in string key); }};
+        """
+        with tempfile.TemporaryDirectory() as folder:
+            path = os.path.join(folder, "desk.idl")
+            with open(path, "w", encoding="ascii") as file:
+                file.write(text)
+            subprocess.run([tool("omniidl"), "-p", os.path.join(ROOT, "idl"), "-blemonrudder", "-Wbpython",
+                            f"-C{folder}", path], check=True, timeout=SECONDS)
+            run = subprocess.run(["mypy", "--cache-dir", os.devnull, "--strict", os.path.join(folder, "desk_idl.py")],
+                                 env={**os.environ, "MYPYPATH": os.path.join(ROOT, "bindings", "python")},
                                  capture_output=True, text=True, timeout=SECONDS)
             self.assertEqual(run.returncode, 0, run.stdout + run.stderr)

@@ -10,10 +10,13 @@ import abc
 import dataclasses
 import enum
 import inspect
+import keyword
 import logging
 import operator
+import re
 import struct
-from typing import Any, Callable, ClassVar, Dict, Iterator, List, Mapping, Optional, Sequence, Tuple, Type, TypeVar
+from typing import (TYPE_CHECKING, Any, Callable, ClassVar, Dict, Iterable, Iterator, List, Mapping, Optional, Sequence,
+                    Tuple, Type, TypeVar)
 from typing import Union as Either
 
 from . import _outcomes
@@ -23,7 +26,8 @@ from ._client import Client
 from ._library import LemonrudderError, Text
 from ._messages import Body
 from ._outcomes import Outcome, Refuse, SystemException
-from ._references import REFERENCE, Ior
+from ._references import REFERENCE
+from ._references import Ior as Ior
 from ._servants import RawReply
 from ._server import Server
 from ._table import Completed, Error, ReplyStatus, Wish
@@ -40,6 +44,14 @@ def _within(name: str, function: Callable[[Any], Any], value: Any) -> Any:
             raise
         kind = TypeError if isinstance(error, TypeError) else ValueError
         raise kind(f"{name}: {error}") from None
+
+
+def _name(made: type) -> str:
+    """The name of IDL of a class that is made of it, as Python has it: its first line says it in IDL's spelling."""
+    said = made.__dict__.get("__doc__") or ""
+    if re.fullmatch(r"\w+(::\w+)*", said) is None:
+        return made.__qualname__
+    return ".".join(f"_{one}" if keyword.iskeyword(one) else one for one in said.split("::"))
 
 
 # ---- types ----
@@ -287,13 +299,39 @@ class reference(IdlType):
 class Enum(enum.IntEnum):
     """An enum of IDL: its numbers are those of CDR."""
 
+    if TYPE_CHECKING:
+        # (an enumerator may be named like what each int has, and hides that)
+        @property
+        def real(self) -> Any: ...
+        @property
+        def imag(self) -> Any: ...
+        @property
+        def numerator(self) -> Any: ...
+        @property
+        def denominator(self) -> Any: ...
+        @property
+        def conjugate(self) -> Any: ...
+        @property
+        def bit_length(self) -> Any: ...
+        @property
+        def bit_count(self) -> Any: ...
+        @property
+        def as_integer_ratio(self) -> Any: ...
+        @property
+        def to_bytes(self) -> Any: ...
+        @property
+        def from_bytes(self) -> Any: ...
+
     @property
     def _v(self) -> int:
         return int(self)
 
     @property
     def _n(self) -> str:
-        return self.name
+        return self._name_
+
+    def __repr__(self) -> str:
+        return f"{_name(type(self))}.{self._name_}"
 
 
 class enumeration(IdlType):
@@ -307,7 +345,7 @@ class enumeration(IdlType):
 
     def plain(self, value: Any) -> int:
         if not isinstance(value, self.made):
-            raise TypeError(f"{value!r} is no {self.made.__name__}")
+            raise TypeError(f"{value!r} is no {_name(self.made)}")
         return int(value)
 
     def typed(self, plain: int) -> Enum:
@@ -316,7 +354,7 @@ class enumeration(IdlType):
     def read(self, reader: Reader) -> Enum:
         number: int = reader.read("L")[0]
         if number >= len(self.items):
-            raise ValueError(f"{number} is no {self.made.__name__}")
+            raise ValueError(f"{number} is no {_name(self.made)}")
         return self.items[number]
 
     def write(self, writer: Writer, value: Any) -> None:
@@ -326,8 +364,21 @@ class enumeration(IdlType):
         return iter(self.items)
 
 
+def _spelled(value: Any, names: Iterable[str]) -> str:
+    """A value by its members."""
+    return f"{_name(type(value))}({', '.join(f'{name}={getattr(value, name)!r}' for name in names)})"
+
+
 class Struct:
     """A struct of IDL. It goes by its members where tuples do, as in what current().store takes."""
+
+    def __init_subclass__(cls) -> None:
+        # (a dataclass keeps the repr that it finds)
+        if "__repr__" not in cls.__dict__:
+            setattr(cls, "__repr__", Struct.__repr__)
+
+    def __repr__(self) -> str:
+        return _spelled(self, (one.name for one in dataclasses.fields(self)))
 
     def __iter__(self) -> Iterator[Any]:
         return (getattr(self, one.name) for one in dataclasses.fields(self))
@@ -344,7 +395,7 @@ class structure(IdlType):
 
     def _of(self, value: Any) -> Any:
         if not isinstance(value, self.made):
-            raise TypeError(f"{value!r} is no {self.made.__name__}")
+            raise TypeError(f"{value!r} is no {_name(self.made)}")
         return value
 
     def plain(self, value: Any) -> Tuple[Any, ...]:
@@ -367,7 +418,8 @@ class Union:
     """A union of IDL. _d: the discriminator. _v: the value of the member that it selects, which has that name too;
     None where it selects none.
 
-    Made by a discriminator and a value, or by a member's name: U(3, "x"), U(text="x"). Raises TypeError, ValueError.
+    Made by a discriminator and a value, or by a member's name, with a discriminator that selects it or the first one
+    that does: U(3, "x"), U(3, text="x"), U(text="x"). Raises TypeError, ValueError, AttributeError.
     """
 
     _type: ClassVar[union]
@@ -377,9 +429,12 @@ class Union:
     def __init__(self, *both: Any, **by_name: Any) -> None:
         if len(both) == 2 and not by_name:
             self._d, self._v = both
-        elif not both and len(by_name) == 1:
+        elif len(both) < 2 and len(by_name) == 1:
             (name, value), = by_name.items()
             setattr(self, name, value)
+            if both and self._type.name(both[0]) != name:
+                raise ValueError(f"{name} is not the member of {both[0]!r}")
+            self._d = both[0] if both else self._d
         else:
             raise TypeError("a discriminator and a value, or a member by its name")
 
@@ -406,7 +461,11 @@ class Union:
         raise TypeError("a union is not to be hashed")
 
     def __repr__(self) -> str:
-        return f"{type(self).__name__}({self._d!r}, {self._v!r})"
+        name = self._type.name(self._d)
+        if name is None:
+            return f"{_name(type(self))}({self._d!r}, {self._v!r})"
+        label = "" if self._type.first[name] == self._d else f"{self._d!r}, "
+        return f"{_name(type(self))}({label}{name}={self._v!r})"
 
 
 class union(IdlType):
@@ -445,7 +504,7 @@ class union(IdlType):
 
     def write(self, writer: Writer, value: Any) -> None:
         if not isinstance(value, self.made):
-            raise TypeError(f"{value!r} is no {self.made.__name__}")
+            raise TypeError(f"{value!r} is no {_name(self.made)}")
         _within("_d", lambda one: self.switch.write(writer, one), value._d)
         found = self.member(value._d)
         if found is not None:
@@ -463,9 +522,10 @@ class UserException(Exception):
     _id: ClassVar[str]
     _type: ClassVar[structure]
 
-    def __str__(self) -> str:
-        members = (f"{name}={getattr(self, name)!r}" for name, _ in self._type.members)
-        return f"{type(self).__name__}({', '.join(members)})"
+    def __repr__(self) -> str:
+        return _spelled(self, (name for name, _ in self._type.members))
+
+    __str__ = __repr__
 
     def __eq__(self, other: object) -> bool:
         return type(other) is type(self) and all(getattr(self, name) == getattr(other, name)
