@@ -4,6 +4,7 @@ What is read is compared with the rows and cases of `giop show`, with octets of 
 tests/engine.py. The library is that of LEMONRUDDER_LIBRARY, or the one that tests/programs.py finds.
 """
 import asyncio
+import contextlib
 import gc
 import glob
 import itertools
@@ -2660,7 +2661,7 @@ class Bounds(Case):
         self.run_async(main())
 
     def test_connections(self):
-        """One that comes beyond the bound is dropped, and one that is silent for long is left."""
+        """One that comes beyond the bound takes the place of who is idle longest; who is silent for long is left."""
         async def main():
             go = asyncio.Event()
 
@@ -2668,28 +2669,92 @@ class Bounds(Case):
                 await go.wait()
                 return 1
 
-            server, client = await self.pair({"slow": ("", "l", slow)}, max_connections=2, idle_timeout=1)
+            operations = {"slow": ("", "l", slow), "get": ("", "l", lambda: 2)}
+            server, client = await self.pair(operations, max_connections=3, idle_timeout=4)
             async with server, client:
                 call = asyncio.ensure_future(client.call("k", "slow", results="l"))
-                reader, writer = await asyncio.open_connection(client.host, client.port)
-                await self.drained(server, 2)
-                other, third = await asyncio.open_connection(client.host, client.port)
-                with self.assertRaises(ConnectionError):
-                    self.assertEqual(await other.read(), b"")
-                    raise ConnectionError
-                message, = lr.messages(await reader.read())
-                self.assertIs(message.type, lr.MessageType.CLOSE_CONNECTION)
+                await self.drained(server, 1)
+                (longest, first), (shorter, second) = [await asyncio.open_connection(client.host, client.port)
+                                                       for _ in range(2)]
+                await self.drained(server, 3)
+                await asyncio.sleep(0.2)
+                # (half a message is something)
+                second.write(lr.write_request(1, "k", "get")[:20])
+                begun = time.monotonic()
+                async with lr.Client(client.host, client.port) as other:
+                    self.assertEqual(await other.call("k", "get", results="l", timeout=SECONDS), 2)
+                    self.assertLess(time.monotonic() - begun, 3)
+                    message, = lr.messages(await longest.read())
+                    self.assertIs(message.type, lr.MessageType.CLOSE_CONNECTION)
+                    second.write(lr.write_request(1, "k", "get")[20:])
+                    reply, = lr.messages(await shorter.read(4096))
+                    self.assertEqual(reply.body.unpack("l"), (2,))
+                    message, = lr.messages(await shorter.read())
+                    self.assertIs(message.type, lr.MessageType.CLOSE_CONNECTION)
                 self.assertFalse(call.done())
                 go.set()
                 self.assertEqual(await call, 1)
-                self.assertEqual(server.stats()["turned_away"], 1)
-                for one in (writer, third):
+                self.assertEqual(server.stats()["turned_away"], 0)
+                for one in (first, second):
                     one.close()
         with self.assertLogs("lemonrudder", "INFO") as logged:
             self.run_async(main())
         text = "\n".join(logged.output)
-        self.assertIn("is turned away", text)
+        self.assertEqual(text.count("another one takes its place"), 1)
         self.assertIn("it was idle", text)
+
+    def test_connections_that_are_all_busy(self):
+        """One that comes beyond the bound then waits, until one has been idle for a second."""
+        async def main():
+            async def slow():
+                await go.wait()
+
+            go = asyncio.Event()
+            server, client = await self.pair({"slow": ("", "", slow), "get": ("", "l", lambda: 2)}, max_connections=1)
+            async with server, client, lr.Client(client.host, client.port) as other:
+                call = asyncio.ensure_future(client.call("k", "slow"))
+                await self.drained(server, 1)
+                get = asyncio.ensure_future(other.call("k", "get", results="l"))
+                await asyncio.sleep(1.5)
+                self.assertEqual((get.done(), call.done(), server.connections), (False, False, 1))
+                go.set()
+                await asyncio.wait([call])
+                begun = time.monotonic()
+                self.assertEqual(await get, 2)
+                # (who has just been answered has not been idle since it asked)
+                self.assertGreater(time.monotonic() - begun, 0.9)
+        with self.assertLogs("lemonrudder"):
+            self.run_async(main())
+
+    def test_silent_peers(self):
+        """There may be more of them than the server has connections or descriptors for: others are served."""
+        program = """if True:
+            import asyncio, lemonrudder, resource, sys
+            resource.setrlimit(resource.RLIMIT_NOFILE, (32, 32))
+            async def main():
+                server = lemonrudder.Server(max_connections=int(sys.argv[1]))
+                server.add("k", "IDL:K:1.0", {"get": ("", "l", lambda: 1)})
+                print(await server.listen(), flush=True)
+                await server.serve_forever()
+            asyncio.run(main())
+        """
+
+        async def call(port):
+            async with lr.Client("127.0.0.1", port) as client:
+                return await client.call("k", "get", results="l", timeout=15)
+
+        for most in (10, 1000):
+            with self.subTest(most=most), contextlib.ExitStack() as stack:
+                words = [sys.executable, "-c", program, str(most)]
+                path = os.path.join(ROOT, "bindings", "python")
+                server = subprocess.Popen(words, stdout=subprocess.PIPE, stderr=subprocess.PIPE, text=True,
+                                          env={**os.environ, "PYTHONPATH": path})
+                stack.callback(server.communicate)
+                stack.callback(server.kill)
+                port = int(server.stdout.readline())
+                for _ in range(60):
+                    stack.enter_context(socket.create_connection(("127.0.0.1", port)))
+                self.assertEqual(asyncio.run(call(port)), 1)
 
     def test_connections_that_come_while_it_closes(self):
         """Those that are accepted then are dropped, and no line of a log that an operator reads speaks of them."""
@@ -3039,6 +3104,24 @@ class Tls(Case):
                         await wrong.call("k", "who", "o", [b""], "so", timeout=0.5)
                 self.assertIsInstance(caught.exception.__cause__, ssl.SSLError)
                 self.assertEqual(caught.exception.sent, 0)
+        with tempfile.TemporaryDirectory() as folder:
+            self.run_async(main(*self.contexts(folder)))
+
+    def test_silent_peers(self):
+        """Those that do not even begin TLS make place too."""
+        async def main(served, called):
+            server = lr.Server(max_connections=2)
+            server.add("k", "IDL:K:1.0", {"get": ("", "l", lambda: 1)})
+            port = await server.listen(ssl=served)
+            tls = {"ssl": called, "server_hostname": "localhost"}
+            async with server, lr.Client("127.0.0.1", port, **tls) as client, lr.Client("127.0.0.1", port, **tls) as other:
+                self.assertEqual(await client.call("k", "get", results="l"), 1)
+                silent = [socket.create_connection(("127.0.0.1", port)) for _ in range(3)]
+                self.assertEqual(await other.call("k", "get", results="l", timeout=20), 1)
+                # (one that has its place is asked as before)
+                self.assertEqual(await client.call("k", "get", results="l", timeout=20), 1)
+                for one in silent:
+                    one.close()
         with tempfile.TemporaryDirectory() as folder:
             self.run_async(main(*self.contexts(folder)))
 

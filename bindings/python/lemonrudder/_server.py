@@ -8,6 +8,7 @@ from typing import Any, Callable, Dict, List, Mapping, Optional, Sequence, Tuple
 
 from ._catalogue import Catalogue
 from ._connection import PEER_ENDED, Connection
+from ._door import Door
 from ._durable import Durable
 from ._engine import Asked, Engine
 from ._library import LIMIT, PARTIALS, LemonrudderError, Text, octets_of
@@ -55,7 +56,8 @@ class Server:
     limit, partials, capacity, share, max_parked, max_parked_of, max_joined, max_due and max_client_id: as of Engine.
     Where max_parked requests are parked, an async operation is refused by TRANSIENT; the last quarter of the places is
     for connections that have none. While as many outcomes are kept as may be, requests that are new and may be sent
-    again are answered NO_RESOURCES. max_connections: one that comes beyond is dropped. timeout: the seconds that an
+    again are answered NO_RESOURCES. max_connections: who comes beyond takes the place of the one that is idle longest, for a second at least; where
+    all are busy it waits. So it is where there are no descriptors. timeout: the seconds that an
     async operation may take; then it is cancelled, and, unless it says another outcome within a second, answered as
     TIMEOUT, COMPLETED_MAYBE, since it has perhaps acted. idle_timeout: the seconds after which goodbye is said on a
     connection that has been silent. write_timeout: the seconds that a peer may take nothing of what is due. None: as
@@ -107,7 +109,7 @@ class Server:
         self._closing: Any = None
         self._sweeping: Optional[asyncio.TimerHandle] = None
         self._emptied: Any = None
-        self._listeners: List[Any] = []
+        self._door = Door(self)
         self._addresses: List[Tuple[str, int]] = []
 
     # ---- objects ----
@@ -186,9 +188,7 @@ class Server:
             self._sweep()
             if self._durable is not None:
                 self._durable.begin()
-        listener = await loop.create_server(lambda: Connection(self), host, port, **options)
-        self._listeners.append(listener)
-        self._addresses.append((host, listener.sockets[0].getsockname()[1]))
+        self._addresses.append((host, await self._door.open(host, port, options)))
         return self._addresses[-1][1]
 
     @property
@@ -272,12 +272,10 @@ class Server:
 
     def _enter(self, connection: Connection) -> None:
         """Takes a new connection, or drops it."""
+        self._door.entered(connection)
         if self._closing is not None:
             # (it was accepted before the listener closed)
             self._turn_away(connection, "the server closes", logging.DEBUG)
-            return
-        if len(self._connections) >= self.max_connections:
-            self._turn_away(connection, f"there are {len(self._connections)}")
             return
         self._last += 1
         try:
@@ -297,6 +295,7 @@ class Server:
     def _leave(self, connection: Connection) -> None:
         """A connection is gone."""
         self._waiting.pop(connection, None)
+        self._door.free()
         if self._connections.pop(connection.number, None) is None or self.is_closed:
             return
         why = self._engine.why(connection.number)
@@ -377,8 +376,7 @@ class Server:
     async def _close(self, timeout: Optional[float]) -> None:
         """Ends as close says."""
         if self._engine is not None and not self.is_closed:
-            for listener in self._listeners:
-                listener.close()
+            self._door.close()
             for connection in list(self._connections.values()):
                 connection.farewell("the server closes")
             self._tell()
@@ -399,8 +397,7 @@ class Server:
         self.is_closed = True
         if self._sweeping is not None:
             self._sweeping.cancel()
-        for listener in self._listeners:
-            listener.close()
+        self._door.stop()
         for connection in list(self._connections.values()):
             if not connection.transport.is_closing():
                 connection.transport.abort()

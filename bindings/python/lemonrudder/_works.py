@@ -199,6 +199,7 @@ class Works:
         task = work.task
         del self.works[work.asked.ticket]
         work.connection.works -= 1
+        work.connection.heard = self._server._loop.time()
         if work.timer is not None:
             work.timer.cancel()
         raised = None if task.cancelled() else task.exception()
