@@ -37,7 +37,8 @@ class Door:
     async def open(self, host: str, port: int, options: Mapping[str, Any]) -> int:
         """Takes those of an address too, and returns its port. Raises OSError."""
         loop = asyncio.get_running_loop()
-        bound = await loop.create_server(asyncio.Protocol, host, port, **{**options, "start_serving": False})
+        words: Dict[str, Any] = {**options, "start_serving": False}
+        bound = await loop.create_server(asyncio.Protocol, host, port, **words)
         sockets = [socket.fromfd(one.fileno(), one.family, one.type) for one in bound.sockets]
         bound.close()
         try:
