@@ -22,6 +22,7 @@ import sys
 import tempfile
 import time
 import unittest
+from functools import partial
 from unittest import mock
 
 from scripts.library import VERSION, serves
@@ -2450,9 +2451,7 @@ class Waits(Case):
                 server.remove("factory")
                 server.remove_family("acct/")
                 go.set()
-                with self.assertRaises(lr.SystemException) as caught:
-                    await call
-                self.assertEqual((caught.exception.name, caught.exception.completed), ("INTERNAL", 2))
+                self.assertEqual(await call, 3)
                 self.assertEqual(await client.call("acct/7", "get", results="s"), "get")
                 server.remove("made/x")
                 self.fails(Error.OBJECT, server.remove, "made/x")
@@ -2460,6 +2459,94 @@ class Waits(Case):
                 self.assertEqual(await client.call("k", "get", results="l"), 1)
         with self.assertLogs("lemonrudder"):
             self.run_async(main())
+
+
+    def test_an_object_is_taken_away_while_it_is_called(self):
+        """What is under way ends by its own types, and is kept; who comes then hears that there is no such object."""
+        async def main(prefix, add, remove, version):
+            go, performed = asyncio.Event(), []
+
+            async def wait(number):
+                performed.append(number)
+                await go.wait()
+                if number == 2:
+                    raise lr.UserException(OVERFLOW, (7, "x"))
+                if number == 3:
+                    raise lr.SystemException("NO_PERMISSION", 5)
+                return number, [(number, 0.5)]
+
+            def bye():
+                """It takes its own object away."""
+                remove(server, prefix)
+                return 4, []
+
+            raw = [lr.RawReply(b"\1\2\3", LITTLE), lr.RawReply(lr.pack("s", OVERFLOW), BIG, 1)]
+
+            async def waiting(body):
+                await go.wait()
+                return raw[body.unpack("l")[0]]
+
+            types = ("l", "l[(ld)]")
+            operations = {"wait": (*types, wait), "bye": ("", types[1], bye), "raw": waiting}
+            server, key = lr.Server(), prefix + "1"
+            add(server)(prefix, "IDL:K:1.0", operations, {"wait": {OVERFLOW: "ls"}})
+            port = await server.listen()
+
+            async def call(number, operation, *values, client="A", raises=True):
+                """What a call is answered under a number, once."""
+                async with lr.Client("127.0.0.1", port, client, keep_transient=False, version=version) as one:
+                    try:
+                        if operation == "raw":
+                            reply = await one.call_raw(key, operation, lr.pack("l", *values), number=number, expiration=FAR)
+                            return reply.octets, reply.order
+                        return await one.recall(number, key, operation, types[0] if values else "", values, types[1],
+                                                {OVERFLOW: "ls"}, expiration=FAR)
+                    except lr.UserException as error:
+                        return error.id, error.values
+                    except lr.SystemException as error:
+                        return error.name, error.minor, error.completed
+
+            gone, added = ("OBJECT_NOT_EXIST", 0, lr.Completed.NO), {"wait": ("", "s", lambda: "other")}
+            wanted = {(1, "wait", 1): (1, [(1, 0.5)]), (2, "wait", 2): (OVERFLOW, (7, "x")),
+                      (3, "wait", 3): ("NO_PERMISSION", 5, lr.Completed.NO), (4, "raw", 0): (b"\1\2\3", LITTLE),
+                      (5, "raw", 1): (OVERFLOW, ())}
+            # (in 1.0 and 1.1 a raw body would stand at another place)
+            wanted = {words: answer for words, answer in wanted.items() if version == 2 or words[1] != "raw"}
+            async with server, contextlib.AsyncExitStack() as stack:
+                stack.callback(go.set)
+                calls = {words: asyncio.ensure_future(call(*words)) for words in wanted}
+                while server.stats()["parked_now"] < len(wanted):
+                    await asyncio.sleep(0.01)
+                self.assertEqual(await call(6, "bye"), (4, []))
+                self.assertEqual(await call(7, "wait", 1), gone)
+                self.assertEqual(await call(6, "bye"), (4, []))
+                reader, writer = await asyncio.open_connection("127.0.0.1", port)
+                writer.write(lr.write_locate_request(1, key, version=version))
+                located, = lr.messages(await reader.read(4096))
+                self.assertIs(located.status, lr.LocateStatus.UNKNOWN_OBJECT)
+                writer.close()
+                joins = {words: asyncio.ensure_future(call(*words)) for words in wanted}
+                # (one of the same key has other types)
+                add(server)(prefix, "IDL:L:1.0", added)
+                while server.stats()["joined"] < len(wanted):
+                    await asyncio.sleep(0.01)
+                go.set()
+                for words, answer in wanted.items():
+                    for asked in (calls[words], joins[words], call(*words)):
+                        self.assertEqual(await asked, answer)
+                async with lr.Client("127.0.0.1", port) as one:
+                    self.assertEqual(await one.call(key, "wait", results="s"), "other")
+                self.assertEqual(sorted(performed), [1, 2, 3])
+
+        ways = (("o", lambda server: partial(self.add_one, server), lambda server, key: server.remove(key + "1")),
+                ("o/", lambda server: server.add_family, lambda server, key: server.remove_family(key)))
+        for (prefix, add, remove), version in itertools.product(ways, (0, 1, 2)):
+            with self.subTest(prefix=prefix, version=version):
+                self.run_async(main(prefix, add, remove, version))
+
+    def add_one(self, server, prefix, *described):
+        """Adds the object of a prefix, as a family is added."""
+        server.add(prefix + "1", *described)
 
 
 class Wire(asyncio.Transport):

@@ -359,6 +359,29 @@ class OverAModel(unittest.IsolatedAsyncioTestCase):
         with self.assertRaises(lr.LemonrudderError):
             self.server.add(b"more", (), {}, servant=self.bank)
 
+    async def test_an_object_is_taken_away_while_it_is_called(self):
+        """What is under way is stored and answered by the types that it had."""
+        go = asyncio.Event()
+
+        async def later(account, cents):
+            await go.wait()
+            if cents == 0:
+                raise lr.UserException(OVERDRAWN, [5])
+            return cents if cents == 1 else await self.bank.deposit(account, cents)
+
+        self.server.add(b"later", (), {"deposit": ("sq", "q", later)}, {"deposit": {OVERDRAWN: "q"}})
+        wanted = {0: (OVERDRAWN, (5,)), 1: 1, 7: 7}
+        calls = {cents: asyncio.ensure_future(self.ask(cents + 1, "deposit", "a", cents, key=b"later")) for cents in wanted}
+        while self.server.stats()["under_way"] < len(wanted):
+            await asyncio.sleep(0)
+        self.server.remove(b"later")
+        await self.answers(("OBJECT_NOT_EXIST", 0, NO), 99, "deposit", "a", 1, key=b"later")
+        go.set()
+        for cents, answer in wanted.items():
+            self.assertEqual(await calls[cents], answer)
+            await self.answers(answer, cents + 1, "deposit", "a", cents, key=b"later")
+        self.assertEqual((self.model.accounts, self.bank.performed), ({"a": 7}, 1))
+
     async def test_locates(self):
         """They are answered by what is on offer, also where that changes."""
         async def say(want, key=KEY):

@@ -133,8 +133,9 @@ class Server:
         self._change(partial(self._offer.add, key=octets_of(key), servant=servant))
 
     def remove(self, key: Text) -> None:
-        """Takes an object away. Its operations that are under way go on. Raises LemonrudderError (OBJECT, EMPTY, PARKS
-        as of add)."""
+        """Takes an object away: who asks for it then hears OBJECT_NOT_EXIST. Its operations that are under way go on,
+        and end by what becomes of them, which their repeats get. Raises LemonrudderError (OBJECT, EMPTY, PARKS as of
+        add)."""
         self._change(partial(self._offer.remove, key=octets_of(key)))
 
     def add_family(self, prefix: Text, repository_ids: Union[str, Sequence[str]], operations: Mapping[str, Operation],
@@ -146,7 +147,7 @@ class Server:
         self._put(self._offer.with_family(octets_of(prefix), servant))
 
     def remove_family(self, prefix: Text) -> None:
-        """Takes a family away. Raises LemonrudderError (OBJECT, EMPTY, PARKS as of add)."""
+        """Takes a family away, as remove does an object. Raises LemonrudderError (OBJECT, EMPTY, PARKS as of add)."""
         self._put(self._offer.without_family(octets_of(prefix)))
 
     def add_default(self, function: Callable[[Body], Any], *, timeout: Optional[float] = None) -> None:
