@@ -209,6 +209,67 @@ class Formats(Case):
                     cut = out.all[:dice.randrange(len(out.all))]
                     self.fails(Error.SHORT, lr.unpack, format, cut, order, at)
 
+    def test_many_values_at_once(self):
+        """Sequences of numbers, and of structs of these, are read and written as value by value."""
+        dice = Dice(SEED)
+        numbers = ["?", "c", *SIZES, *REALS, ("enum", 5)]
+        kinds = [*numbers, *(("struct", *(dice.choice(numbers) for _ in range(dice.randint(1, 6)))) for _ in range(40)),
+                 ("struct", "h", ("struct", "d", "B"), "l"), ("struct", ("struct", ("struct", "q")), "?")]
+        for kind, order, at in itertools.product(kinds, (BIG, LITTLE), (0, 3)):
+            values = [some_value(dice, kind) for _ in range(dice.choice([1, 2, 9, 100]))]
+            out, format = Octets(at, ORDERS[order]), format_of(("sequence", kind))
+            spelled(out, ("sequence", kind), values)
+            with self.subTest(format=format, order=order, at=at):
+                self.assertEqual(lr.pack("?" + format + "B", True, values, 7, order=order, at=at - 1 & 7),
+                                 b"\1" + bytes(-at & 3) + self.behind(format, values, order, at) + b"\7")
+                self.assertEqual(lr.pack(format, values, order=order, at=at), out.all)
+                self.assertEqual(lr.pack(format, tuple(values), order=order, at=at), out.all)
+                (found,), (again,) = lr.unpack(format, out.all, order, at), lr.unpack(format, out.all + b"more", order, at)
+                self.assertEqual((found, again), (values, values))
+                self.assertEqual([type(one) for one in found], [type(one) for one in values])
+                for _ in range(4):
+                    size = dice.randrange(len(out.all))
+                    error = self.fails(Error.SHORT, lr.unpack, format, out.all[:size], order, at)
+                    self.assertLessEqual(int(re.search(r"at octet (\d+)", str(error)).group(1)), size)
+
+    def behind(self, format, values, order, at):
+        """A sequence as it is written behind an octet, without the padding before its length."""
+        return lr.pack(format, values, order=order, at=at + (-at & 3))
+
+    def test_faults_amid_many(self):
+        """They are found where they stand."""
+        for format, good, bad, at in (("[?]", b"\0\1\0", b"\2", 7), ("[?]", b"\0\1\0", b"", 7),
+                                      ("[e3]", b"\0\0\0\2", b"\0\0\0\3", 8), ("[l]", bytes(8), b"\0\0", 12),
+                                      ("[(h?)]", b"\0\7\1\0\0\5\0\0", b"\0\7\2", 14), ("[d]", b"", bytes(7), 4)):
+            octets = b"\0\0\0\7" + good + bad
+            with self.subTest(format=format), self.assertRaises(lr.LemonrudderError) as caught:
+                lr.unpack(format, octets)
+            self.assertIn(f"at octet {at}", str(caught.exception))
+            self.assertIs(caught.exception.number, Error.VALUE if format in ("[e3]", "[(h?)]") or bad == b"\2" else Error.SHORT)
+        for format, values, text in (("[l]", [1, 1 << 31], "2147483648 is no long"), ("[?]", [True, 1], "1 is no bool"),
+                                     ("[B]", [255, 256], "256 is no octet"), ("[c]", ["a", "bc"], "'bc' is not one"),
+                                     ("[f]", [1.0, 1e39], "1e+39 is no float"), ("[d]", [1.0, "x"], "'x' is no float"),
+                                     ("[e2]", [1, 2], "2 is not one of 2"), ("[(hh)]", [(1, 2), (3, 40000)], "40000 is no"),
+                                     ("[(hh)]", [(1, 2), (3,)], "a struct of 2 members"), ("[q]", [1, None], "NoneType")):
+            with self.subTest(format=format), self.assertRaises((TypeError, ValueError)) as caught:
+                lr.pack(format, values)
+            self.assertIn(text, str(caught.exception))
+        self.assertEqual(lr.unpack("[d]l", bytes(4) + b"\0\0\0\5"), ([], 5))
+        self.assertEqual(lr.pack("[d]l", [], 5), bytes(4) + b"\0\0\0\5")
+        self.assertEqual(lr.pack("[c][c]", "ab", [b"c", "d"]), lr.pack("oxo".replace("x", ""), b"ab", b"cd"))
+
+    def test_a_megabyte_is_read_at_once(self):
+        """.. of numbers, within a few of the milliseconds that struct takes."""
+        for letter, size in {"?": 1, "c": 1, "e5": 4, **SIZES, **REALS}.items():
+            octets = struct.pack(">L", 1000000 // size) + bytes(1000000)
+            with self.subTest(letter):
+                begun = time.process_time()
+                values, = lr.unpack(f"[{letter}]", octets, at=4)
+                read = time.process_time()
+                self.assertEqual(lr.pack(f"[{letter}]", values, at=4), octets)
+                self.assertLess(read - begun, 0.25)
+                self.assertLess(time.process_time() - read, 0.25)
+
     def test_padding_is_not_looked_at(self):
         self.assertEqual(lr.unpack("Bl", b"\1\xee\xee\xee\0\0\0\2"), (1, 2))
 
