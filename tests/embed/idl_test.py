@@ -12,10 +12,12 @@ import functools
 import importlib
 import os
 import random
+import re
 import signal
 import subprocess
 import sys
 import tempfile
+import time
 import unittest
 from collections.abc import AsyncIterator, Iterable, Iterator
 from typing import Any
@@ -572,6 +574,55 @@ class Python(unittest.TestCase):
                 self.assertEqual(eval(text, scope), value)
         self.assertEqual(str(names.Full(7, "x", names.red)), repr(names.Full(7, "x", names.red)))
         self.assertRaises(ValueError, marks._lambda, 1, text="a")
+
+    def test_many_values(self) -> None:
+        """Numbers are read and written at once, of arrays that no format spells too; what takes its time is bounded."""
+        names = made("many", """
+            typedef long Row[1000]; typedef sequence<Row> Rows; typedef sequence<boolean> Flags;
+            union Some switch (char) { case 'a': Row numbers; }; typedef sequence<Some> Somes;
+            struct Kinds { sequence<char> chars; double reals[300]; sequence<octet> octets; float few[2]; };
+            interface Many { long sum(in Rows all, in Flags those); long count(in Somes all); Kinds keep(in Kinds one); };
+        """)
+
+        class Servant(names._POA_Many):
+            def sum(self, all: Any, those: Any) -> int:
+                return sum(map(sum, all)) + sum(those)
+
+            def count(self, all: Any) -> int:
+                return len(all)
+
+            def keep(self, one: Any) -> Any:
+                return one
+
+        async def calls() -> None:
+            async with lr.Server() as server:
+                idl.add(server, "many", Servant())
+                await server.listen()
+                async with names.Many._of(server.reference("many"), timeout=SECONDS) as stub:
+                    rows = [list(range(row, row + 1000)) for row in range(60)]
+                    flags = [bool(one % 3) for one in range(700000)]
+                    begun = time.process_time()
+                    self.assertEqual(await stub.sum(rows, flags), sum(map(sum, rows)) + sum(flags))
+                    self.assertLess(time.process_time() - begun, 0.5)
+                    kinds = names.Kinds("a\xff\0", [one / 2 for one in range(300)], b"\0\xff", [0.5, 2])
+                    self.assertEqual(await stub.keep(kinds), kinds)
+                    for member, value, kind, text in (("reals", [0.5] * 299 + ["x"], TypeError, "reals: [299]: 'x' is no double"),
+                                                      ("few", [1.0, 1e39], ValueError, "few: [1]: 1e+39 is no float"),
+                                                      ("chars", "a\u20ac", ValueError, "chars: [1]: '\u20ac' is no char")):
+                        with self.assertRaisesRegex(kind, "keep: one: " + re.escape(text)):
+                            await stub.keep(names.Kinds(**{**vars(kinds), member: value}))
+                    for value, text in ((1 << 31, "2147483648 is no long"), (True, "True is no long")):
+                        with self.assertRaisesRegex((TypeError, ValueError), re.escape(f"sum: all: [0]: [999]: {text}")):
+                            await stub.sum([[0] * 999 + [value]], [])
+                    with self.assertRaisesRegex(TypeError, re.escape("sum: those: [1]: 1 is no boolean")):
+                        await stub.sum([], [True, 1])
+                    nothing = [names.Some("b", None)]
+                    self.assertEqual(await stub.count(nothing * 65536), 65536)
+                    with self.assertRaises(lr.SystemException) as caught:
+                        await stub.count(nothing * 65537)
+                    self.assertEqual(str(caught.exception), "MARSHAL, minor 0, COMPLETED_NO")
+
+        asyncio.run(calls())
 
     def test_packages(self) -> None:
         """Two files may have parts of one module; a package of another origin stays as it is."""

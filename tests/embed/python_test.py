@@ -2808,6 +2808,51 @@ class Bounds(Case):
                     await one.close()
         self.run_async(main())
 
+    def test_elements(self):
+        """A request with more elements than may be, each of which takes its time, is refused by MARSHAL."""
+        async def main():
+            performed = []
+
+            def take(values):
+                performed.append(len(values))
+                return len(values)
+
+            operations = {"pairs": ("[(ls)]", "l", take), "deep": ("[[(ls)]]", "l", take), "numbers": ("[l]", "l", take),
+                          "raw": lambda body: lr.pack("l", take(body.unpack("[s]")[0]))}
+            many, few = [(1, "")] * 70000, [(1, "")] * 60000
+            server, client = await self.pair(operations)
+            async with server, client:
+                async def refused(operation, format, value):
+                    with self.assertRaises(lr.SystemException) as caught:
+                        await client.call("k", operation, format, [value], "l")
+                    return str(caught.exception)
+
+                self.assertEqual(await refused("pairs", "[(ls)]", many), "MARSHAL, minor 0, COMPLETED_NO")
+                self.assertEqual(await refused("deep", "[[(ls)]]", [few[:30000], many[:40000]]),
+                                 "MARSHAL, minor 0, COMPLETED_NO")
+                self.assertEqual(performed, [])
+                for operation, format, value in (("pairs", "[(ls)]", few), ("numbers", "[l]", [1] * 200000),
+                                                 ("deep", "[[(ls)]]", [few[:30000], few[:30000]]), ("raw", "[s]", [""] * 9)):
+                    self.assertEqual(await client.call("k", operation, format, [value], "l"), len(value))
+                # (what a raw operation reads is its own: it may say what it is refused by)
+                self.assertEqual(await refused("raw", "[s]", [""] * 70000), "UNKNOWN, minor 0, COMPLETED_MAYBE")
+            for most, count in ((3, 3), (None, 70000)):
+                server, client = await self.pair(operations, max_elements=most)
+                async with server, client:
+                    self.assertEqual(await client.call("k", "pairs", "[(ls)]", [many[:count]], "l"), count)
+                    if most is not None:
+                        with self.assertRaises(lr.SystemException):
+                            await client.call("k", "pairs", "[(ls)]", [many[:most + 1]], "l")
+
+        with self.assertLogs("lemonrudder", "INFO") as logged:
+            self.run_async(main())
+        self.assertIn("'pairs' is refused on connection 1", logged.output[0])
+        self.assertEqual(lr.unpack("[s]l", lr.pack("[s]l", ["a"] * 3, 7), max_elements=3), (["a"] * 3, 7))
+        reader = lr.Reader(lr.pack("[s]l", ["a"] * 3, 7) * 2, max_elements=5)
+        reader.read("[s]l")
+        self.fails(Error.VALUE, reader.read, "[s]l")
+        self.assertEqual(reader.next, len(reader.octets) // 2)
+
     def test_connections(self):
         """One that comes beyond the bound takes the place of who is idle longest; who is silent for long is left."""
         async def main():
@@ -3073,6 +3118,77 @@ class Addresses(Case):
                 self.assertEqual(await client.call("k", "op", "l", [8], "l"), 6)
             body = [lr.pack("l", number) for number in (7, 8, 8)]
             self.assertEqual(seen, [(b"k", "op", number, octets) for number, octets in zip((1, 2, 2), body)])
+        self.run_async(main())
+
+    async def mute(self):
+        """A server that takes all and says nothing: its port, and the numbers of the calls that came."""
+        came = []
+
+        async def serve(reader, writer):
+            assembler = lr.Assembler()
+            while octets := await reader.read(4096):
+                came.extend(one.ft.retention_id for one in assembler.feed(octets) if one.ft is not None)
+            writer.close()
+
+        listener = await asyncio.start_server(serve, "127.0.0.1", 0)
+        self.addCleanup(listener.close)
+        return listener.sockets[0].getsockname()[1], came
+
+    def test_an_address_that_says_nothing(self):
+        """It is left for the next one, where the calls keep their numbers; later ones go there at once."""
+        async def main():
+            server, client = await self.pair({"add": ("l", "l", lambda number: numbers.append(
+                (number, lr.current().retention_id)) or number)})
+            numbers, first, second = [], await self.mute(), await self.mute()
+            reference = self.reference(first[0], second[0], client.port)
+            async with server, lr.Client.of(reference, answer_timeout=0.3) as both:
+                begun = time.monotonic()
+                calls = [both.call("k", "add", "l", [number], "l", timeout=30) for number in (7, 8)]
+                self.assertEqual(await asyncio.gather(*calls), [7, 8])
+                self.assertEqual(await both.call("k", "add", "l", [9], "l"), 9)
+                self.assertLess(time.monotonic() - begun, 10)
+                self.assertEqual((first[1], second[1], numbers), ([1, 2], [1, 2], [(7, 1), (8, 2), (9, 3)]))
+            async with lr.Client.of(self.reference(first[0], second[0]), answer_timeout=0.3) as none:
+                with self.assertRaises(lr.Expired) as caught:
+                    await none.call("k", "add", "l", [7], "l", timeout=1)
+                self.assertIn("said nothing for 0.3 seconds", str(caught.exception.__cause__))
+                self.assertGreater(caught.exception.sent, 2)
+            await client.close()
+        self.run_async(main())
+
+    def test_an_address_that_takes_its_time(self):
+        """One that has no other beside it is not left, nor one that says something."""
+        async def main():
+            async def slow(seconds):
+                performed.append(seconds)
+                await asyncio.sleep(seconds)
+                return 1
+
+            performed, idle = [], await self.mute()
+            server, client = await self.pair({"slow": ("d", "l", slow)})
+            async with server, lr.Client.of(self.reference(client.port), answer_timeout=0.2) as alone:
+                self.assertEqual(await alone.call("k", "slow", "d", [1.0], "l"), 1)
+                async with lr.Client.of(self.reference(client.port, idle[0]), answer_timeout=1.0) as both:
+                    long = asyncio.ensure_future(both.call("k", "slow", "d", [2.5], "l"))
+                    for _ in range(8):
+                        self.assertEqual(await both.call("k", "slow", "d", [0.3], "l"), 1)
+                    self.assertEqual(await long, 1)
+                    # (what was silent while nothing was asked is asked as before)
+                    await asyncio.sleep(1.5)
+                    self.assertEqual(await both.call("k", "slow", "d", [0.5], "l"), 1)
+                self.assertEqual((server._last, idle[1]), (2, []))
+            await client.close()
+        self.run_async(main())
+
+    def test_a_forward_to_one_that_says_nothing(self):
+        """Its calls are asked for as at first."""
+        async def main():
+            there, came = await self.mute()
+            port, seen = await self.script([self.forward(there), self.returned(5), self.returned(6)])
+            async with lr.Client("127.0.0.1", port, answer_timeout=0.3, delays=(0.001, 0.01)) as client:
+                self.assertEqual(await client.call("k", "get", results="l", timeout=30), 5)
+                self.assertEqual(await client.call("k", "get", results="l", timeout=30), 6)
+            self.assertEqual(([number for _, _, number, _ in seen], came), ([1, 1, 2], [1]))
         self.run_async(main())
 
     def test_a_server_that_moves(self):

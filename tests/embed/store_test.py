@@ -382,6 +382,21 @@ class OverAModel(unittest.IsolatedAsyncioTestCase):
             await self.answers(answer, cents + 1, "deposit", "a", cents, key=b"later")
         self.assertEqual((self.model.accounts, self.bank.performed), ({"a": 7}, 1))
 
+    async def test_more_elements_than_may_be(self):
+        """What the store has is answered before such a request is refused."""
+        async with lr.Server(store=self.model, max_elements=3) as server:
+            server.add(KEY, (), {"deposit": ("sq[s]", "q", lambda account, cents, why: cents)})
+            port = await server.listen()
+
+            async def ask(count):
+                async with lr.Client("127.0.0.1", port, "client", keep_transient=False) as client:
+                    try:
+                        return await client.recall(1, KEY, "deposit", "sq[s]", ("a", 7, ["x"] * count), "q",
+                                                   expiration=ENDLESS)
+                    except lr.SystemException as error:
+                        return error.name, error.completed
+            self.assertEqual([await ask(4), await ask(3), await ask(4)], [("MARSHAL", NO), 7, 7])
+
     async def test_locates(self):
         """They are answered by what is on offer, also where that changes."""
         async def say(want, key=KEY):

@@ -63,7 +63,7 @@ class Reader:
         """
         return self._read(parsed(format), lambda part: part.read(self))
 
-    def _each(self, format: str, count: int) -> List[Any]:
+    def read_each(self, format: str, count: int) -> List[Any]:
         """So many values of the one type of a format. Errors as of read."""
         (values,) = self._read(parsed(format), lambda part: part.read_many(self, count))
         return cast(List[Any], values)
@@ -80,8 +80,9 @@ class Reader:
             self._place.next, self._left = before
             raise
 
-    def _count(self, count: int) -> None:
-        """So many elements are read that take their time. Raises LemonrudderError (VALUE)."""
+    def count(self, count: int) -> None:
+        """So many elements are to be read that take their time. Raises LemonrudderError (VALUE: more than
+        max_elements)."""
         if self._left is not None:
             if count > self._left:
                 raise LemonrudderError(Error.VALUE, f"more than {self._most} elements (max_elements)")
@@ -149,7 +150,7 @@ class Writer:
             self._place.next = before
             raise
 
-    def _write_each(self, format: str, values: Sequence[Any]) -> None:
+    def write_each(self, format: str, values: Sequence[Any]) -> None:
         """Writes values of the one type of a format. Raises ValueError, TypeError; nothing is written then."""
         before, (part,) = self._place.next, parsed(format)
         try:
@@ -202,7 +203,7 @@ class _Type:
 
     def read_many(self, reader: Reader, count: int) -> List[Any]:
         """So many values."""
-        reader._count(count)
+        reader.count(count)
         return [self.read(reader) for _ in range(count)]
 
     def write_many(self, writer: Writer, values: Sequence[Any]) -> None:
@@ -450,7 +451,7 @@ class _Struct(_Type):
     def read_many(self, reader: Reader, count: int) -> List[Any]:
         if not self._layouts:
             return super().read_many(reader, count)
-        reader._count(count)
+        reader.count(count)
         layouts, at, next, octets = self._layouts[reader._place.order], reader._place.at, reader._place.next, reader.octets
         found, starts = [], [next]
         for _ in range(count):

@@ -54,7 +54,9 @@ class Server:
     what is due, or has as many requests parked as may be, nothing more is read.
 
     limit, partials, capacity, share, max_parked, max_parked_of, max_joined, max_due and max_client_id: as of Engine.
-    Where max_parked requests are parked, an async operation is refused by TRANSIENT; the last quarter of the places is
+    max_elements: of how many elements the sequences of a request may be in all, but for numbers, booleans, octets and
+    characters, since each takes its time for all connections: one that has more is refused by MARSHAL; None: as many as
+    there are. Where max_parked requests are parked, an async operation is refused by TRANSIENT; the last quarter of the places is
     for connections that have none. While as many outcomes are kept as may be, requests that are new and may be sent
     again are answered NO_RESOURCES. max_connections: who comes beyond takes the place of the one that is idle longest, for a second at least; where
     all are busy it waits. So it is where there are no descriptors. timeout: the seconds that an
@@ -77,7 +79,8 @@ class Server:
 
     def __init__(self, limit: int = LIMIT, partials: int = PARTIALS, capacity: int = 65536,
                  share: Optional[int] = None, *, max_parked: int = 1024, max_parked_of: int = 64, max_joined: int = 8,
-                 max_due: int = 65536, max_client_id: int = 256, max_connections: int = 1000,
+                 max_due: int = 65536, max_client_id: int = 256, max_elements: Optional[int] = 65536,
+                 max_connections: int = 1000,
                  timeout: Optional[float] = None, idle_timeout: Optional[float] = 300.0,
                  write_timeout: float = 60.0, store: Optional[Store] = None,
                  purge_every: Optional[float] = 60.0) -> None:
@@ -90,6 +93,7 @@ class Server:
         self._terms = (limit, partials, capacity, share) if store is None else (limit, partials, max_parked + 1, None)
         self._limits = {"max_parked": max_parked, "max_parked_of": max_parked_of, "max_joined": max_joined,
                         "max_due": max_due, "max_client_id": max_client_id}
+        self._max_elements = max_elements
         # what is on offer; before `listen` a catalogue says whether it can be
         self._offer, self._trial = Offer(), Catalogue()
         self._connections: Dict[int, Connection] = {}
@@ -183,7 +187,8 @@ class Server:
         if self._engine is None:
             with self._offer.catalogue() as catalogue:
                 # (what a store has is answered first, also of what is no more)
-                self._engine = Engine(catalogue, *self._terms, **self._limits, ask_first=self._durable is not None)
+                self._engine = Engine(catalogue, *self._terms, **self._limits, ask_first=self._durable is not None,
+                                      max_elements=self._max_elements)
             self._trial.close()
             self._ended, self._emptied = loop.create_future(), loop.create_future()
             self._sweep()
@@ -265,7 +270,7 @@ class Server:
 
     def _judged(self, asked: Asked) -> Judged:
         """What becomes of the request that waits. Raises KeyError: there is nothing of its name."""
-        if self._durable is None:
+        if self._durable is None and asked.refusal is None:
             return Judged(asked, self._offer.performer(asked.key, asked.operation))
         return self._offer.judged(asked)
 

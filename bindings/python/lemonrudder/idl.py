@@ -57,9 +57,15 @@ def _name(made: type) -> str:
 # ---- types ----
 
 class IdlType:
-    """A type. format: that of the library, or None where none spells it."""
+    """A type. format: that of the library, or None where none spells it. is_basic: whether a value of the format is one
+    of the type, so that many need no look at each."""
 
     format: Optional[str] = None
+    is_basic = False
+
+    def are_plain(self, values: Any) -> bool:
+        """Whether these are values of a basic type, and each as one of the format. False: see to each."""
+        return False
 
     def plain(self, value: Any) -> Any:
         """A value as one of the format. Raises ValueError, TypeError: it is none of this type."""
@@ -87,6 +93,8 @@ class IdlType:
 
 
 class _Number(IdlType):
+    is_basic = True
+
     def __init__(self, name: str, format: str, least: int, bits: int) -> None:
         self.name, self.format = name, format
         self.least, self.most = least, least + (1 << bits) - 1
@@ -99,12 +107,18 @@ class _Number(IdlType):
             raise ValueError(f"{number} is no {self.name}")
         return number
 
+    def are_plain(self, values: Any) -> bool:
+        return set(map(type, values)) == {int} and self.least <= min(values) and max(values) <= self.most
+
     def values(self) -> Iterator[Any]:
         return iter(range(self.most + 1))
 
 
 class _Boolean(IdlType):
-    format = "?"
+    format, is_basic = "?", True
+
+    def are_plain(self, values: Any) -> bool:
+        return set(map(type, values)) == {bool}
 
     def plain(self, value: Any) -> bool:
         if not isinstance(value, bool):
@@ -116,7 +130,10 @@ class _Boolean(IdlType):
 
 
 class _Char(IdlType):
-    format = "c"
+    format, is_basic = "c", True
+
+    def are_plain(self, values: Any) -> bool:
+        return isinstance(values, str) and max(values, default="") <= "\xff"
 
     def plain(self, value: Any) -> str:
         if not isinstance(value, str):
@@ -130,8 +147,14 @@ class _Char(IdlType):
 
 
 class _Real(IdlType):
+    is_basic = True
+
     def __init__(self, name: str, format: str) -> None:
         self.name, self.format, self._code = name, format, ">" + format
+
+    def are_plain(self, values: Any) -> bool:
+        # (a float of Python may be none of 32 bits)
+        return self.format == "d" and set(map(type, values)) == {float}
 
     def plain(self, value: Any) -> float:
         if isinstance(value, bool) or not isinstance(value, (int, float)):
@@ -206,8 +229,7 @@ class sequence(IdlType):
     def read(self, reader: Reader) -> Any:
         if self.format is not None:
             return super().read(reader)
-        count = _bounded_count(reader.read("L")[0], self.bound)
-        return [self.member.read(reader) for _ in range(count)]
+        return _read_each(self.member, reader, _bounded_count(reader.read("L")[0], self.bound))
 
     def write(self, writer: Writer, value: Any) -> None:
         if self.format is not None:
@@ -240,7 +262,7 @@ class array(IdlType):
     def read(self, reader: Reader) -> Any:
         if self.format is not None:
             return super().read(reader)
-        return _made(self.member, [self.member.read(reader) for _ in range(self.size)])
+        return _read_each(self.member, reader, self.size)
 
     def write(self, writer: Writer, value: Any) -> None:
         if self.format is not None:
@@ -257,12 +279,14 @@ def _holds(member: IdlType, value: Any, name: str) -> None:
         raise TypeError(f"{value!r} is no {name}: it is to be {words}")
 
 
-def _plains(member: IdlType, values: Any) -> List[Any]:
+def _plains(member: IdlType, values: Any) -> Any:
+    if member.are_plain(values):
+        return values
     return [_within(f"[{index}]", member.plain, value) for index, value in enumerate(values)]
 
 
 def _joined(member: IdlType, plains: Any) -> Any:
-    return _made(member, [member.typed(plain) for plain in plains])
+    return _made(member, list(plains) if member.is_basic else [member.typed(plain) for plain in plains])
 
 
 def _made(member: IdlType, values: List[Any]) -> Any:
@@ -276,7 +300,18 @@ def _bounded_count(count: int, bound: int) -> int:
     return count
 
 
+def _read_each(member: IdlType, reader: Reader, count: int) -> Any:
+    """So many members."""
+    if member.format is not None:
+        return _joined(member, reader.read_each(member.format, count))
+    reader.count(count)
+    return _made(member, [member.read(reader) for _ in range(count)])
+
+
 def _write_each(member: IdlType, writer: Writer, values: Any) -> None:
+    if member.format is not None:
+        writer.write_each(member.format, _plains(member, values))
+        return
     for index, value in enumerate(values):
         _within(f"[{index}]", lambda one: member.write(writer, one), value)
 
