@@ -37,11 +37,12 @@ if "LEMONRUDDER_LIBRARY" not in os.environ:
 sys.path.insert(0, os.path.join(ROOT, "bindings", "python"))
 
 import lemonrudder as lr  # noqa: E402
-from lemonrudder import BIG, LITTLE, Error, Signature, _connection, _lines, _server, _works  # noqa: E402
+from lemonrudder import BIG, LITTLE, Error, Signature, _connection, _lines, _references, _server, _works  # noqa: E402
 from lemonrudder._connection import Connection  # noqa: E402
 from lemonrudder._library import library as native  # noqa: E402
 from lemonrudder._library import serves as serves_here  # noqa: E402
 from lemonrudder._table import FUNCTIONS  # noqa: E402
+from lemonrudder.idl import Stub  # noqa: E402
 
 SEED = 31
 SCRIPTS = 300
@@ -705,6 +706,21 @@ class References(Case):
         self.assertEqual(lr.Ior.parse(COUNTER.encode()), lr.Ior.parse(COUNTER))
         self.assertEqual(len({lr.Ior.parse(COUNTER), lr.Ior.parse(COUNTER)}), 1)
 
+    def test_urls(self):
+        """They go to the library as they stand; what it does not take is named, if it is not long."""
+        url, heard = "corbaloc:iiop:1.1@h:7,:[::1]/Dev%2f%C3%A9", []
+
+        def parse(slot, octets, size):
+            heard.append((octets, size))
+            return Error.REFERENCE
+        with mock.patch.object(_references.library, "lr_ior_parse", parse):
+            for call in (lr.Ior.parse, lr.Client.of, Stub._of):
+                error = self.fails(Error.REFERENCE, call, f" {url}\n")
+                self.assertEqual(error.text, f"no stringified reference: '{url}'")
+        self.assertEqual(heard, 3 * [(url.encode(), len(url))])
+        self.assertEqual(self.fails(Error.REFERENCE, lr.Ior.parse, "IOR:" + "g" * 200).text,
+                         f"no stringified reference: 'IOR:{'g' * 56}' and 144 characters more")
+
     def test_components_in_both_orders(self):
         for order in (BIG, LITTLE):
             components = [(0, b"\1\2"), (1, b""), (0xffffffff, bytes(300))]
@@ -736,7 +752,7 @@ class References(Case):
         self.assertEqual((nil.type_id, nil.profiles), ("", ()))
 
     def test_what_is_none(self):
-        for bad in ("", "IOR", "IOR:", "IOR:0", "IOR:0g", "corbaloc::h/k", COUNTER[:-20], "IOR:\u20ac", COUNTER[4:]):
+        for bad in ("", "IOR", "IOR:", "IOR:0", "IOR:0g", "corbaloc:h/k", COUNTER[:-20], "IOR:\u20ac", COUNTER[4:]):
             with self.subTest(bad):
                 self.fails(Error.REFERENCE, lr.Ior.parse, bad)
         self.fails(Error.RANGE, lr.Ior.iiop, "IDL:X:1.0", "h", 1, b"k", 3)
@@ -3118,6 +3134,23 @@ class Addresses(Case):
                 self.assertEqual(await client.call("k", "op", "l", [8], "l"), 6)
             body = [lr.pack("l", number) for number in (7, 8, 8)]
             self.assertEqual(seen, [(b"k", "op", number, octets) for number, octets in zip((1, 2, 2), body)])
+        self.run_async(main())
+
+    def test_urls(self):
+        """A client of a URL `corbaloc:` calls the object of its key at its addresses."""
+        async def main():
+            server, client = await self.pair({"get": ("", "l", lambda: 7)})
+            urls = [f"corbaloc:{places}/k" for places in (f":127.0.0.1:{client.port}", f"iiop:1.0@127.0.0.1:{client.port}",
+                                                          f":127.0.0.1:{self.closed_port()},:127.0.0.1:{client.port}")]
+            async with server:
+                for url in urls:
+                    async with lr.Client.of(url) as one:
+                        self.assertEqual(await one.call(one.key, "get", results="l"), 7)
+            await client.close()
+        try:
+            lr.Ior.parse("corbaloc::h:1/k")
+        except lr.LemonrudderError:
+            self.skipTest(NEEDS + "a library that reads URLs corbaloc:")
         self.run_async(main())
 
     async def mute(self):
