@@ -3189,6 +3189,21 @@ class Addresses(Case):
             await client.close()
         self.run_async(main())
 
+    def test_the_share_of_an_address(self):
+        """Where nothing is said, each of them has its share of the time of a call."""
+        async def main():
+            server, client = await self.pair({"get": ("", "l", lambda: 7)})
+            (first, came), (second, others) = await self.mute(), await self.mute()
+            async with server, lr.Client.of(self.reference(first, second, client.port)) as both:
+                long = asyncio.ensure_future(both.call("k", "get", results="l", expiration=FAR))
+                begun = time.monotonic()
+                self.assertEqual(await both.call("k", "get", results="l", timeout=3), 7)
+                self.assertEqual(await long, 7)
+                self.assertGreater(time.monotonic() - begun, 1.5)
+            self.assertEqual((came, others), ([1, 2], [1, 2]))
+            await client.close()
+        self.run_async(main())
+
     def test_an_address_that_takes_its_time(self):
         """One that has no other beside it is not left, nor one that says something."""
         async def main():

@@ -30,6 +30,8 @@ class Call:
         self.ended: asyncio.Future[Tuple[Optional[int], Body]] = asyncio.get_running_loop().create_future()
         # how often it was sent, and what stood in the way last
         self.sent = 0
+        # the seconds that one place has to answer it, where nothing else is said
+        self.share = 0.0
         self.cause: Optional[BaseException] = None
 
 
@@ -55,7 +57,7 @@ class Road:
         self._resending: Optional[asyncio.TimerHandle] = None
         self._ticking: Optional[asyncio.TimerHandle] = None
         # since when the place has said nothing though calls are pending there, and why it is left for that
-        self._silent_since = 0.0
+        self._silent_since = self._share = 0.0
         self._watching: Optional[asyncio.TimerHandle] = None
         self._mute: Optional[TimeoutError] = None
         call(library.lr_client_open, self._slot, *lent(settings.client_id))
@@ -80,6 +82,7 @@ class Road:
         if made.ended.done():
             made.ended = loop.create_future()
         self.greatest = made.number = number
+        made.share = (made.expiration - words[2]) / 10**7 / (len(self.places) + self.may_fail)
         if not self.calls:
             self._silent_since = loop.time()
         self.calls[number] = made
@@ -90,7 +93,8 @@ class Road:
             self._task = loop.create_task(self._keep_connected())
         if self._ticking is None:
             self._tick()
-        self._watch()
+        if self._watching is None or made.share < self._share:
+            self._watch()
 
     def cancel(self, made: Call) -> None:
         """A call is no longer wanted."""
@@ -182,17 +186,19 @@ class Road:
 
     def _watch(self) -> None:
         """Leaves a place that says nothing though calls are pending there, where they may go elsewhere."""
-        seconds, loop = self.settings.answer_timeout, asyncio.get_running_loop()
         if self._watching is not None:
             self._watching.cancel()
             self._watching = None
-        if seconds is None or self._transport is None or not self.calls or len(self.places) < 2 and not self.may_fail:
+        if self._transport is None or not self.calls or len(self.places) + self.may_fail < 2:
             return
+        self._share = min(made.share for made in self.calls.values())
+        given, loop = self.settings.answer_timeout, asyncio.get_running_loop()
+        seconds = self._share if given is None else given
         left = self._silent_since + seconds - loop.time()
         if left > 0:
             self._watching = loop.call_later(left, self._watch)
         else:
-            self._mute, self._is_heard = TimeoutError(f"the address said nothing for {seconds} seconds"), False
+            self._mute, self._is_heard = TimeoutError(f"the address said nothing for {seconds:.3g} seconds"), False
             self._transport.abort()
 
     def _later(self) -> float:
