@@ -14,10 +14,12 @@ import os
 import random
 import re
 import signal
+import struct
 import subprocess
 import sys
 import tempfile
 import time
+import tracemalloc
 import unittest
 from collections.abc import AsyncIterator, Iterable, Iterator
 from typing import Any
@@ -623,6 +625,48 @@ class Python(unittest.TestCase):
                     self.assertEqual(str(caught.exception), "MARSHAL, minor 0, COMPLETED_NO")
 
         asyncio.run(calls())
+
+    def test_what_is_made_of_a_request(self) -> None:
+        """It takes 25 times its octets and 256 for each element at most, whatever the types; beyond it is refused."""
+        names = made("grown", """
+            struct One { octet x; }; typedef One Many[250]; struct Deep { Many some; };
+            union Either switch (char) { case 'a': long big[1000]; case 'b': One first; };
+            typedef sequence<One> Ones; typedef sequence<Deep> Deeps; typedef sequence<Either> Eithers;
+            typedef sequence<short> Shorts; typedef sequence<boolean> Flags; typedef sequence<string> Texts;
+            typedef sequence<octet> Octets; typedef sequence<Octets> Pieces;
+            interface Grown {
+              void put_ones(in Ones all); void put_deeps(in Deeps all); void put_eithers(in Eithers all);
+              void put_shorts(in Shorts all); void put_flags(in Flags all); void put_texts(in Texts all);
+              void put_pieces(in Pieces all);
+            };
+        """)
+        most, all_of = 1 << 18, 16384
+
+        def kept(name: str, count: int, octets: bytes) -> Any:
+            """What is made of so many elements, and of how many octets; the memory that it took."""
+            operation = names._i_Grown.operations[name]
+            body = lr.Body(struct.pack(">L", count) + octets, max_elements=all_of)
+            tracemalloc.start()
+            try:
+                plain = (body,) if operation.is_raw else body.unpack(operation.signature.arguments)
+                found = operation.values(plain)
+                return found, len(body.octets), tracemalloc.get_traced_memory()[1]
+            finally:
+                tracemalloc.stop()
+
+        text = struct.pack(">L", 11) + b"abcdefghij\0\0"
+        for name, count, octets in (("put_ones", all_of, bytes(all_of)), ("put_deeps", 65, bytes(250 * 65)),
+                                    ("put_eithers", all_of, b"c" * all_of), ("put_eithers", 8192, b"b\1" * 8192),
+                                    ("put_shorts", most // 2, b"\x7f\1" * (most // 2)), ("put_flags", most, bytes(most)),
+                                    ("put_texts", all_of, text * all_of), ("put_pieces", all_of, bytes(4 * all_of))):
+            with self.subTest(name=name, count=count):
+                (found,), size, memory = kept(name, count, octets)
+                self.assertEqual(len(found), count)
+                self.assertLess(memory, 25 * size + 256 * all_of)
+        for name, count, octets in (("put_deeps", 66, bytes(250 * 66)), ("put_ones", all_of + 1, bytes(all_of + 1)),
+                                    ("put_eithers", 8193, b"b\1" * 8193)):
+            with self.subTest(name=name, count=count), self.assertRaises((lr.LemonrudderError, lr.Refuse)):
+                kept(name, count, octets)
 
     def test_packages(self) -> None:
         """Two files may have parts of one module; a package of another origin stays as it is."""

@@ -41,9 +41,9 @@ class Reader:
     """Reads values from octets, one after another.
 
     octets: those to read from. order: that of their numbers. at: the place of the first octet, from which numbers are
-    aligned: 0 of an encapsulation, that of its body of a message. max_elements: how many elements sequences may have in
-    all that are no numbers, booleans or characters, since each takes its time; None: as many as there are. next: the
-    index of the octet that is read next. Raises ValueError: no order or place.
+    aligned: 0 of an encapsulation, that of its body of a message. max_elements: how many elements of sequences, and
+    structs in structs, may be read in all, but for numbers, booleans and characters, since each takes its time; None:
+    as many as there are. next: the index of the octet that is read next. Raises ValueError: no order or place.
     """
 
     def __init__(self, octets: Octets, order: int = BIG, at: int = 0, max_elements: Optional[int] = None) -> None:
@@ -420,6 +420,7 @@ class _Struct(_Type):
     def __init__(self, members: List[_Type]) -> None:
         self.members = members
         self.numbers = [one for one in members if isinstance(one, _Number)]
+        self.structs = sum(isinstance(one, _Struct) for one in members)
         # of an order: how one is laid out that begins at a place, from 0 to 7
         self._layouts: Dict[int, List[struct.Struct]] = {}
         if len(self.numbers) == len(members):
@@ -439,6 +440,7 @@ class _Struct(_Type):
         return b"".join(member.codes() for member in self.members) + bytes([Code.STRUCT, len(self.members)])
 
     def read(self, reader: Reader) -> Tuple[Any, ...]:
+        reader.count(self.structs)
         return tuple(member.read(reader) for member in self.members)
 
     def write(self, writer: Writer, value: Any) -> None:

@@ -65,8 +65,8 @@ class Engine(Held):
     for the outcome of one, beside the last who came. max_due: of how many octets due on a connection on it is fed no
     more. max_client_id: the octets of a client's id. ask_first: whether a request with FT_REQUEST that would be refused
     for its object, its operation or its arguments comes to you first, who may have its outcome; else refuse it so.
-    max_elements: how many elements the sequences among the arguments of a request may have, as of Reader; one that has
-    more comes to you with a refusal, MARSHAL. None: as many as there are. Raises LemonrudderError (EMPTY, RANGE): the catalogue is as it was.
+    max_elements: as of Reader, of the arguments of a request; one that has more comes to you with a refusal, MARSHAL.
+    Raises LemonrudderError (EMPTY, RANGE): the catalogue is as it was.
     """
 
     def __init__(self, catalogue: Catalogue, limit: int = LIMIT, partials: int = PARTIALS, capacity: int = 65536,

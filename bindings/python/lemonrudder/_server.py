@@ -54,9 +54,9 @@ class Server:
     what is due, or has as many requests parked as may be, nothing more is read.
 
     limit, partials, capacity, share, max_parked, max_parked_of, max_joined, max_due and max_client_id: as of Engine.
-    max_elements: of how many elements the sequences of a request may be in all, but for numbers, booleans, octets and
-    characters, since each takes its time for all connections: one that has more is refused by MARSHAL; None: as many as
-    there are. Where max_parked requests are parked, an async operation is refused by TRANSIENT; the last quarter of the places is
+    max_elements: how many elements of sequences, and structs in structs, the arguments of a request may have in all,
+    but for numbers, booleans and characters, since each takes its time for all connections: one that has more is
+    refused by MARSHAL; None: as many as there are. Where max_parked requests are parked, an async operation is refused by TRANSIENT; the last quarter of the places is
     for connections that have none. While as many outcomes are kept as may be, requests that are new and may be sent
     again are answered NO_RESOURCES. max_connections: who comes beyond takes the place of the one that is idle longest, for a second at least; where
     all are busy it waits. So it is where there are no descriptors. timeout: the seconds that an

@@ -286,7 +286,9 @@ def _plains(member: IdlType, values: Any) -> Any:
 
 
 def _joined(member: IdlType, plains: Any) -> Any:
-    return _made(member, list(plains) if member.is_basic else [member.typed(plain) for plain in plains])
+    if member.is_basic:
+        return _made(member, plains if isinstance(plains, list) else list(plains))
+    return _made(member, [member.typed(plain) for plain in plains])
 
 
 def _made(member: IdlType, values: List[Any]) -> Any:
@@ -424,6 +426,7 @@ class structure(IdlType):
 
     def __init__(self, made: type, *members: Tuple[str, IdlType]) -> None:
         self.made, self.members = made, members
+        self._structs = sum(isinstance(type, (structure, union)) for _, type in members)
         formats = [type.format for _, type in members]
         if len(members) <= 255 and all(one is not None for one in formats):
             self.format = f"({''.join(map(str, formats))})"
@@ -441,6 +444,7 @@ class structure(IdlType):
         return self.made(*(type.typed(one) for (_, type), one in zip(self.members, plain)))
 
     def read(self, reader: Reader) -> Any:
+        reader.count(self._structs)
         return self.made(*(type.read(reader) for _, type in self.members))
 
     def write(self, writer: Writer, value: Any) -> None:
@@ -535,6 +539,7 @@ class union(IdlType):
     def read(self, reader: Reader) -> Any:
         label = self.switch.read(reader)
         found = self.member(label)
+        reader.count(found is not None and isinstance(found[1], (structure, union)))
         return self.made(label, None if found is None else found[1].read(reader))
 
     def write(self, writer: Writer, value: Any) -> None:
