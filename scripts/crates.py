@@ -28,6 +28,7 @@ SECONDS = {
     "ft_lives": 95,
     "ft_tcp": 48,
     "lemonrudder": 635,
+    "lemonrudder_c": 100,
     "digits": 60,
     "counter": 40,
     "giop_text": 86,

@@ -17,7 +17,9 @@ from scripts.kit import are_of_run, are_older, cache, files_below, load_kit, sum
 LIBRARY = "lemonrudder"
 EMBED = os.path.join(ROOT, "embed")
 IDL = os.path.join(ROOT, "idl", LIBRARY)
-ARCHIVE = os.path.join(ROOT, "crates", LIBRARY, "out", f"lib{LIBRARY}.a")
+# the crate that is built into an archive: the functions that C calls, over the crate of what they do
+CRATE = "lemonrudder_c"
+ARCHIVE = os.path.join(ROOT, "crates", CRATE, "out", f"lib{CRATE}.a")
 TOOLS = ("cc", "ar", "ld", "objcopy")
 # what pkg-config and CMake read: where it is put below lib/, and what it is made of, in embed/
 PACKAGES = {
@@ -82,9 +84,9 @@ def build_over_gate(since, is_anew=False):
     """Builds the archive over the libraries that the gate left which began at a moment, or, unless it is to be built
     anew, takes that which an earlier run on this machine built of the same files; answers whether that succeeded."""
     kit, began = load_kit(), time.time()
-    crate = next(it for it in kit.crates_below(ROOT) if it.name == LIBRARY)
+    crate = next(it for it in kit.crates_below(ROOT) if it.name == CRATE)
     if not are_of_run(crate.below(), since):
-        print(f"the gate left no libraries below {LIBRARY}")
+        print(f"the gate left no libraries below {CRATE}")
         return False
     kept = os.path.join(cache(), "archives", sum_of(kit, crate, [os.path.abspath(__file__)]))
     os.makedirs(os.path.dirname(ARCHIVE), exist_ok=True)

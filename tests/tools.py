@@ -119,7 +119,7 @@ class Kept(unittest.TestCase):
         self.archive, self.built = os.path.join(self.room, "out", "lib.a"), 0
         self.write("src/lib.rt", "one")
         self.write("WHAT", "a kit")
-        crate = types.SimpleNamespace(name=library.LIBRARY, said={}, folder=self.room, below=lambda: [])
+        crate = types.SimpleNamespace(name=library.CRATE, said={}, folder=self.room, below=lambda: [])
         stand_in = types.SimpleNamespace(KIT=self.room, crates_below=lambda _: [crate],
                                          files_of=lambda folder: [os.path.join(folder, "src", "lib.rt")])
         for where, name, value in ((library, "ARCHIVE", self.archive), (library, "build", self.build),
