@@ -1,4 +1,4 @@
-"""Makes the library for C of the proved crate: an archive, a shared library, headers, files for pkg-config and CMake.
+"""Makes the library for C of the proved crate `lemonrudder_c`, which exports the calls of `lemonrudder`: an archive, a shared library, headers, files for pkg-config and CMake.
 
 The rule of versions.  What was built with one version of the library may run with another one of the same series that
 is not older. A series is the versions of one major number; before 1.0, those of one minor number. So 0.1.3 stands in
@@ -18,7 +18,7 @@ LIBRARY = "lemonrudder"
 EMBED = os.path.join(ROOT, "embed")
 IDL = os.path.join(ROOT, "idl", LIBRARY)
 # the crate that is built into an archive
-CRATE = "lemonrudder"
+CRATE = "lemonrudder_c"
 ARCHIVE = os.path.join(ROOT, "crates", CRATE, "out", f"lib{CRATE}.a")
 BUILD = Build(ARCHIVE, CRATE)
 TOOLS = ("cc", "ar", "ld", "objcopy")

@@ -144,15 +144,14 @@ def wrong_bodies(crate: str) -> list[str]:
 
 
 def public_functions(crate: str) -> list[str]:
-    """The functions that a crate's lib.rt hands out, by themselves or with their type, and those that C calls."""
-    lines = re.findall(r"^pub use \w+::([^;]*);", text_of(f"crates/{crate}/src/lib.rt"), re.M)
+    """The functions that a crate's lib.rt hands out, by themselves or with their type."""
+    lines = re.findall(r"^pub use (?:\w+::)+([^;]*);", text_of(f"crates/{crate}/src/lib.rt"), re.M)
     handed = set(re.findall(r"\w+", " ".join(lines)))
     sources = "\n".join(text_of(name) for name in files(".rt") if name.startswith(f"crates/{crate}/src/"))
-    exported = re.findall(r'^pub extern "C" fn (\w+)', sources, re.M)
     methods = []
     for name, body in re.findall(r"^impl(?:<[^\n]*?>)? (\w+)(?:<[^\n]*>)? \{\n(.*?)^\}", sources, re.M | re.S):
         methods += [f"{name}::{function}" for function in re.findall(r"^    pub fn (\w+)", body, re.M) if name in handed]
-    return exported + methods + [name for name in handed if re.search(rf"^pub fn {name}\b", sources, re.M)]
+    return methods + [name for name in handed if re.search(rf"^pub fn {name}\b", sources, re.M)]
 
 
 # ------------------------------------------------------------------------------------------------ links

@@ -34,7 +34,8 @@ MOST = 70
 # the libraries: each of their public calls has a wrong body, or a word why not
 LIBRARIES = ("cdr_core", "ior_core", "corbaloc", "giop_core", "giop_frames", "giop_link", "ft_log", "ft_client",
              "ft_objects", "ft_orb", "ft_ends", "ft_lives", "ft_tcp", "digits", "counter", "giop_text",
-             "giop_types", "giop_run", "giop_tap", "giop_lines", "giop_trace", "lemonrudder", "uses")
+             "giop_types", "giop_run", "giop_tap", "giop_lines", "giop_trace", "lemonrudder",
+             "lemonrudder_c", "uses")
 
 
 class Pair(NamedTuple):
@@ -325,7 +326,7 @@ def exported(crate: str) -> tuple[set[str], set[str]]:
     """What the root of a library hands out: names of items, and of modules."""
     root = text_of(f"{ROOT}/crates/{crate}/src/lib.rt")
     names: set[str] = set()
-    for one, several in re.findall(r"^pub use \w+::(?:(\w+)|\{([^}]*)\});", root, re.M):
+    for one, several in re.findall(r"^pub use (?:\w+::)+(?:(\w+)|\{([^}]*)\});", root, re.M):
         names |= {one} if one else set(re.findall(r"\w+", several))
     return names, set(re.findall(r"^pub mod (\w+);", root, re.M))
 
