@@ -1,4 +1,5 @@
-"""Makes the library for C of the proved crate `lemonrudder_c`, which exports the calls of `lemonrudder`: an archive, a shared library, headers, files for pkg-config and CMake.
+"""Makes the library for C of the proved crate `lemonrudder_c`, which exports the calls of `lemonrudder`: an archive, a
+shared library, headers, files for pkg-config and CMake.
 
 The rule of versions.  What was built with one version of the library may run with another one of the same series that
 is not older. A series is the versions of one major number; before 1.0, those of one minor number. So 0.1.3 stands in
