@@ -21,7 +21,7 @@ use giop_trace::{Choice, KEYS, Options};
 use std::alloc::{AllocError, Global};
 
 /// What the program is to do.
-#[derive(Clone, Copy, Debug, PartialEq, Eq)]
+#[derive(Clone, Copy)]
 pub(crate) enum Setting<'a> {
     /// A task on the standard streams.
     Run(Task<'a>),
@@ -45,7 +45,7 @@ impl Setting<'_> {
 }
 
 /// Why the words were refused.
-#[derive(Debug, Drop)]
+#[derive(Drop)]
 pub(crate) enum SettingError {
     /// The words are not those of the program, or ask for help or the version.
     Words(clap::Error),

@@ -15,7 +15,7 @@ use std::alloc::{AllocError, Global};
 use std::io::{BufWriter, Read, Write};
 
 /// What is asked of a trace.
-#[derive(Clone, Copy, Debug, PartialEq, Eq)]
+#[derive(Clone, Copy)]
 pub struct Options<'a> {
     /// The input is octets of one direction, and not what tshark prints.
     pub is_raw: bool,
