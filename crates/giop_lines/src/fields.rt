@@ -174,7 +174,7 @@ impl Page {
     }
 
     /// Appends a field, unless it is absent.
-    fn pair(&mut self, name: &str, value: &Value) {
+    pub fn field(&mut self, name: &str, value: &Value) {
         if let Value::Absent = value {
             return;
         }
@@ -182,15 +182,10 @@ impl Page {
         self.value(value);
     }
 
-    /// Appends a field, unless it is absent.
-    pub fn field(&mut self, name: &str, value: Value) {
-        self.pair(name, &value);
-    }
-
     /// Appends fields, but those that are absent.
     pub fn fields(&mut self, fields: &[(&str, Value)]) {
         for (name, value) in fields {
-            self.pair(name, value);
+            self.field(name, value);
         }
     }
 

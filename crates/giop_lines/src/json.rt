@@ -1,9 +1,7 @@
 //! The lines of messages as JSON, an object each.
 
 use crate::caught::Caught;
-use crate::content::{
-    Outcome, body_of, contexts_of, ft_of, id_of, kind_of, outcome_of, target_of,
-};
+use crate::content::{Outcome, body_of, contexts_of, ft_of, id_of, kind_of, outcome_of, target_of};
 use crate::fields::Value;
 use crate::forwards::forward_in;
 use crate::json_forwards::put_forward;
@@ -11,7 +9,7 @@ use crate::moments::time_of;
 use crate::objects::Objects;
 use crate::page::Page;
 use crate::printing::Printer;
-use crate::reports::{address_value, direction_name, place_values};
+use crate::reports::{address_value, direction_name, time_value};
 use crate::shown::Shown;
 use cdr_core::Order;
 use giop_core::{
@@ -81,8 +79,8 @@ fn put_head(shown: &Shown, page: &mut Page) {
 pub(crate) fn put_letter(is_null: bool, key: &[u8], objects: &mut Objects, page: &mut Page) {
     let letter = objects.letter(key);
     match page.made(letter) {
-        Some(letter) => page.field("object", Value::Word(&letter)),
-        None => page.field("object", Value::lacking(is_null)),
+        Some(letter) => page.field("object", &Value::Word(&letter)),
+        None => page.field("object", &Value::lacking(is_null)),
     }
 }
 
@@ -111,7 +109,7 @@ fn put_target(has_letter: bool, target: &Target, objects: &mut Objects, page: &m
 fn put_named<T: fmt::Display + Drop>(status: Option<T>, page: &mut Page) {
     match status {
         Some(status) => page.shown("status", &status),
-        None => page.field("status", Value::Null),
+        None => page.field("status", &Value::Null),
     }
 }
 
@@ -120,7 +118,7 @@ fn put_status(content: &Content, page: &mut Page) {
     match content {
         Content::Reply(reply) => put_named(ReplyStatus::from_number(reply.status), page),
         Content::LocateReply(reply) => put_named(LocateStatus::from_number(reply.status), page),
-        _ => page.field("status", Value::Null),
+        _ => page.field("status", &Value::Null),
     }
 }
 
@@ -134,7 +132,7 @@ fn put_exception(outcome: Outcome, page: &mut Page) {
             Some(completion_name(raised.completed)),
         ),
         Outcome::User(Some(id)) => (id, None, None, None),
-        _ => return page.field("exception", Value::Null),
+        _ => return page.field("exception", &Value::Null),
     };
     page.name("exception");
     page.put("{");
@@ -192,7 +190,7 @@ fn moment_value<'v>(moment: u64) -> Value<'v> {
 /// Appends what contexts say of a client, where they do.
 fn put_ft(field: &FtField, page: &mut Page) {
     let (is_valid, client, retention, expiration, expires) = match field {
-        FtField::Absent => return page.field("ft", Value::Null),
+        FtField::Absent => return page.field("ft", &Value::Null),
         FtField::Bad => (false, Value::Null, Value::Null, Value::Null, Value::Null),
         FtField::Present {
             client_id,
@@ -233,12 +231,12 @@ fn put_says(shown: &Shown, is_caught: bool, objects: &mut Objects, page: &mut Pa
     }
     page.field(
         "operation",
-        Value::octets(operation_in(content, shown.operation)),
+        &Value::octets(operation_in(content, shown.operation)),
     );
-    page.field("octets", Value::number(octets_in(content)));
+    page.field("octets", &Value::number(octets_in(content)));
     put_status(content, page);
-    page.field("request", Value::number(request));
-    page.field("later", later);
+    page.field("request", &Value::number(request));
+    page.field("later", &later);
     put_exception(outcome_of(content), page);
 }
 
@@ -257,26 +255,31 @@ struct Bodies<'m> {
     body: Option<Body<'m>>,
 }
 
+/// Appends when and in which packet a message came.
+fn put_when(caught: &Caught, page: &mut Page) {
+    page.field("frame", &Value::Number(caught.stamp.frame));
+    page.field("time", &time_value(caught.stamp.time, false));
+    page.field("since", &Value::number_if(caught.since()));
+    page.field("latency", &Value::number_if(caught.latency));
+}
+
+/// Appends the addresses of both sides, where they are known.
+fn put_ends(caught: &Caught, page: &mut Page) {
+    page.field("opener", &address_value(caught.ends.opener, false));
+    page.field("acceptor", &address_value(caught.ends.acceptor, false));
+}
+
 /// Appends what a capture tells of a message.
 fn put_caught(caught: &Caught, bodies: Bodies, objects: &mut Objects, page: &mut Page) {
-    let (frame, time) = place_values(Some(caught.stamp), false);
-    page.fields(&[
-        ("frame", frame),
-        ("time", time),
-        ("since", Value::number_if(caught.since())),
-        ("latency", Value::number_if(caught.latency)),
-    ]);
+    put_when(caught, page);
     if let Some(body) = bodies.forward {
         page.name("forward");
         put_forward(&body, objects, page);
     }
-    page.fields(&[
-        ("opener", address_value(caught.ends.opener, false)),
-        ("acceptor", address_value(caught.ends.acceptor, false)),
-    ]);
+    put_ends(caught, page);
     if let Some(body) = bodies.body {
-        page.field("body", Value::Digits(body.octets));
-        page.field("text", Value::Octets(body.octets));
+        page.field("body", &Value::Digits(body.octets));
+        page.field("text", &Value::Octets(body.octets));
     }
 }
 
@@ -291,7 +294,7 @@ fn bodies_in<'m>(has_bodies: bool, content: &Content<'m>) -> Bodies<'m> {
 /// Appends the fields that stand behind all others, and ends the object.
 fn put_last(frames: u64, values: Option<&str>, page: &mut Page) {
     if frames > 1 {
-        page.field("frames", Value::Number(frames));
+        page.field("frames", &Value::Number(frames));
     }
     if let Some(values) = values {
         page.name("values");
@@ -316,7 +319,7 @@ pub(crate) fn put_message(
     let bodies = bodies_in(printer.has_bodies, &shown.seen.message.content);
     put_contexts(contexts_of(shown.seen.message.content), page);
     put_ft(&field, page);
-    page.field("repeats", Value::number(repeats));
+    page.field("repeats", &Value::number(repeats));
     if let Some(caught) = caught {
         put_caught(caught, bodies, objects, page);
     }

@@ -70,7 +70,7 @@ fn put_known(profile: &Profile, objects: &mut Objects, page: &mut Page) {
 /// Appends a reference.
 fn put_reference(ior: &Ior, objects: &mut Objects, page: &mut Page) {
     page.put("{\"valid\":true");
-    page.field("type_id", Value::Octets(&ior.type_id));
+    page.field("type_id", &Value::Octets(&ior.type_id));
     page.put(",\"profiles\":[");
     for profile in &ior.profiles {
         page.apart();

@@ -328,7 +328,13 @@ fn put_first(
     };
     let detail = detail_of(printer, caught);
     put_beginning(printer, shown, caught, page);
-    put_content(detail, &shown.seen.message.content, answering, objects, page);
+    put_content(
+        detail,
+        &shown.seen.message.content,
+        answering,
+        objects,
+        page,
+    );
 }
 
 /// Appends the line of what a table of types tells of a message, if it does.

@@ -31,7 +31,7 @@ pub(crate) fn direction_name(sender: Sender) -> &'static str {
 }
 
 /// A time in nanoseconds since 1970; where it is not known null, or nothing.
-fn time_value<'v>(time: Option<u64>, is_null: bool) -> Value<'v> {
+pub(crate) fn time_value<'v>(time: Option<u64>, is_null: bool) -> Value<'v> {
     match time.and_then(moment_of) {
         Some(time) => Value::Time(time),
         None => Value::lacking(is_null),
@@ -39,10 +39,7 @@ fn time_value<'v>(time: Option<u64>, is_null: bool) -> Value<'v> {
 }
 
 /// The packet and the time of a line; where they are not known null, or nothing.
-pub(crate) fn place_values<'v>(
-    stamp: Option<Stamp>,
-    is_null: bool,
-) -> (Value<'v>, Value<'v>) {
+fn place_values<'v>(stamp: Option<Stamp>, is_null: bool) -> (Value<'v>, Value<'v>) {
     match stamp {
         Some(stamp) => (Value::Number(stamp.frame), time_value(stamp.time, is_null)),
         None => (Value::lacking(is_null), Value::lacking(is_null)),
@@ -60,29 +57,29 @@ pub(crate) fn address_value<'v>(address: &'v [u8], is_null: bool) -> Value<'v> {
 /// Appends the packet and the time of a line, where they are not known null or nothing, and ends its object.
 fn end_at(spot: &Spot, is_null: bool, page: &mut Page) {
     let (frame, time) = place_values(spot.stamp(), is_null);
-    page.field("frame", frame);
-    page.field("time", time);
+    page.field("frame", &frame);
+    page.field("time", &time);
     page.end();
 }
 
 /// Begins an object of a side of a connection.
 fn begin_at(line: &str, spot: &Spot, page: &mut Page) {
     page.begin(line);
-    page.field("connection", Value::Number(spot.connection));
-    page.field("direction", Value::Word(direction_name(spot.sender)));
+    page.field("connection", &Value::Number(spot.connection));
+    page.field("direction", &Value::Word(direction_name(spot.sender)));
 }
 
 /// Appends the line of the form.
 pub(crate) fn put_version(page: &mut Page) {
     page.begin("trace");
-    page.field("form", Value::Number(FORM));
+    page.field("form", &Value::Number(FORM));
     page.end();
 }
 
 /// Appends the line of a side that closed its connection.
 pub(crate) fn put_closed(spot: &Spot, by: &str, page: &mut Page) {
     begin_at("closed", spot, page);
-    page.field("by", Value::Word(by));
+    page.field("by", &Value::Word(by));
     end_at(spot, true, page);
 }
 
@@ -136,9 +133,9 @@ pub(crate) fn put_fault(
     page: &mut Page,
 ) {
     begin_at("fault", spot, page);
-    page.field("at", Value::Number(at));
+    page.field("at", &Value::Number(at));
     page.shown("fault", &fault);
-    page.field("looks", looks_value(looks));
+    page.field("looks", &looks_value(looks));
     end_at(spot, false, page);
 }
 
@@ -147,13 +144,19 @@ pub(crate) fn put_left(spot: &Spot, left: Left, page: &mut Page) {
     let (line, octets, partial) = match left {
         Left::Nothing => return,
         Left::Passed(from, octets) => {
-            let fields = [("from", Value::Number(from)), ("octets", Value::Number(octets))];
+            let fields = [
+                ("from", Value::Number(from)),
+                ("octets", Value::Number(octets)),
+            ];
             return put_octets("passed", spot, &fields, page);
         }
         Left::Rest(octets, partial) => ("rest", octets, partial),
         Left::Unread(octets) => ("unread", octets, 0),
     };
-    let fields = [("octets", Value::Number(octets)), ("partial", Value::Number(partial))];
+    let fields = [
+        ("octets", Value::Number(octets)),
+        ("partial", Value::Number(partial)),
+    ];
     put_octets(line, spot, &fields, page);
 }
 

@@ -71,12 +71,12 @@ fn put_called_fields(called: Option<&Called>, objects: &mut Objects, page: &mut 
         Some(called) => (called.key(), called.operation()),
         None => (None, None),
     };
-    page.field("key", Value::digits(key));
+    page.field("key", &Value::digits(key));
     match key {
         Some(key) => put_letter(true, key, objects, page),
-        None => page.field("object", Value::Null),
+        None => page.field("object", &Value::Null),
     }
-    page.field("operation", Value::octets(operation));
+    page.field("operation", &Value::octets(operation));
 }
 
 /// Appends how many answers were an exception, by their names.
@@ -112,7 +112,7 @@ fn put_row_object(called: Option<&Called>, row: &Row, objects: &mut Objects, pag
     ]);
     put_exceptions(row, page);
     if called.is_none() {
-        page.field("others", Value::Truth(true));
+        page.field("others", &Value::Truth(true));
     }
     page.end();
 }
@@ -133,7 +133,11 @@ fn put_calls(
 
 /// Appends the line of how connections ended.
 fn put_endings(endings: &Endings, page: &mut Page) {
-    page.number("connections by their end: CloseConnection ", endings.close, "");
+    page.number(
+        "connections by their end: CloseConnection ",
+        endings.close,
+        "",
+    );
     page.number(", MessageError ", endings.error, "");
     page.number(", RST ", endings.reset, "");
     page.number(", FIN ", endings.fin, "");
