@@ -12,10 +12,14 @@ import functools
 import importlib
 import os
 import random
+import re
 import signal
+import struct
 import subprocess
 import sys
 import tempfile
+import time
+import tracemalloc
 import unittest
 from collections.abc import AsyncIterator, Iterable, Iterator
 from typing import Any
@@ -38,7 +42,7 @@ TYPES, VALUES = 24, 12
 # .. and of those that go through C++, which compiles slowly
 CPP_TYPES = 4
 LANGUAGES = ("python", "cpp", "c", "rust", "types")
-ORB = ["-lomniORB4", "-lomnithread"]
+ORB = ["-lomniDynamic4", "-lomniORB4", "-lomnithread"]
 EMBED = os.path.join(ROOT, "tests", "embed")
 EXAMPLES = os.path.join(ROOT, "examples")
 FOLDER = tempfile.TemporaryDirectory(prefix="idl")
@@ -473,17 +477,17 @@ NONE_OF_ITS_TYPE = {
     "octets as a str": (lambda n: ("keep", held(n, its_key="four")),
                         TypeError, "keep: what: its_key: 'four' is no array: it is to be bytes"),
     "a number in place of an enum": (lambda n: ("keep", held(n, its_colour=1)),
-                                     TypeError, "keep: what: its_colour: 1 is no Shapes_Colour"),
+                                     TypeError, "keep: what: its_colour: 1 is no Shapes.Colour"),
     "an enum in place of a number": (lambda n: ("keep", held(n, number=n.red)),
-                                     TypeError, "keep: what: number: <Shapes_Colour.red: 0> is no unsigned long long"),
-    "a tuple in place of a struct": (lambda n: ("keep", (1, 2)), TypeError, "keep: what: (1, 2) is no Shapes_Held"),
+                                     TypeError, "keep: what: number: Shapes.Colour.red is no unsigned long long"),
+    "a tuple in place of a struct": (lambda n: ("keep", (1, 2)), TypeError, "keep: what: (1, 2) is no Shapes.Held"),
     "below 0": (lambda n: ("keep", held(n, number=-1)), ValueError, "keep: what: number: -1 is no unsigned long long"),
     "a member of another type": (lambda n: ("draw", n.Mark(n.red, "text")),
-                                 TypeError, "draw: what: at: 'text' is no Shapes_Point"),
+                                 TypeError, "draw: what: at: 'text' is no Shapes.Point"),
     "a value of no member": (lambda n: ("draw", n.Mark(n.None_, "t")), ValueError,
-                             "draw: what: <Shapes_Colour.None_: 2> has no member, and there is a value: 't'"),
+                             "draw: what: Shapes.Colour.None_ has no member, and there is a value: 't'"),
     "a discriminator of another type": (lambda n: ("draw", n.Mark(True, "text")),
-                                        TypeError, "draw: what: _d: True is no Shapes_Colour"),
+                                        TypeError, "draw: what: _d: True is no Shapes.Colour"),
     "a member's range": (lambda n: ("draw", n.Mark(at=n.Point(0, -32769))),
                          ValueError, "draw: what: at: y: -32769 is no short"),
     "a NUL in a string": (lambda n: ("tell", "a\0b"), ValueError, "tell: what: a NUL in the string 'a\\x00b'"),
@@ -544,10 +548,125 @@ class Python(unittest.TestCase):
         """Names that Python's enums and exceptions have themselves."""
         odd = made("odd", "enum Odd { name, value, mro, items };\nstruct Own { Odd name; long value; long fields; };\n"
                    "exception Raised { long with_traceback; long add_note; };")
-        self.assertEqual([one._n for one in odd.Odd], ["name", "value", "_mro", "items"])
-        own = odd.Own(odd.Odd.value, 1, 2)
-        self.assertEqual((own.name, list(own)), (odd.Odd.value, [odd.Odd.value, 1, 2]))
+        self.assertEqual([one._n for one in odd.Odd], ["_name", "_value", "_mro", "items"])
+        own = odd.Own(odd.Odd._value, 1, 2)
+        self.assertEqual((own.name, list(own)), (odd.value, [odd.Odd._value, 1, 2]))
         self.assertEqual(str(odd.Raised(1, 2)), "Raised(_with_traceback=1, _add_note=2)")
+
+    def test_repr(self) -> None:
+        """What is printed of a value makes it anew, where the modules are there."""
+        made("shapes", SHAPES)
+        names = importlib.import_module("Shapes")
+        made("marks", "module Marks { union lambda switch (short) { case 1: case 2: long id; default: string text; }; };")
+        marks = importlib.import_module("Marks")
+        scope = {"Shapes": names, "Marks": marks}
+        for value, text in (
+                (names.Point(1, -2), "Shapes.Point(x=1, y=-2)"),
+                (names.green, "Shapes.Colour.green"),
+                (names.Mark(at=names.Point(1, 2)), "Shapes.Mark(at=Shapes.Point(x=1, y=2))"),
+                (names.Mark(names.None_, None), "Shapes.Mark(Shapes.Colour.None_, None)"),
+                (names.Any_(_from=0.5), "Shapes.Any_(_from=0.5)"),
+                (names.Desk.Inner(5), "Shapes.Desk.Inner(_self=5)"),
+                (names.Full(7, "x", names.red), "Shapes.Full(id=7, _args='x', its_colour=Shapes.Colour.red)"),
+                (marks._lambda(id=5), "Marks._lambda(id=5)"),
+                (marks._lambda(2, 5), "Marks._lambda(2, id=5)"),
+                (marks._lambda(9, text="a"), "Marks._lambda(9, text='a')")):
+            with self.subTest(text):
+                self.assertEqual(repr(value), text)
+                self.assertEqual(eval(text, scope), value)
+        self.assertEqual(str(names.Full(7, "x", names.red)), repr(names.Full(7, "x", names.red)))
+        self.assertRaises(ValueError, marks._lambda, 1, text="a")
+
+    def test_many_values(self) -> None:
+        """Numbers are read and written at once, of arrays that no format spells too; what takes its time is bounded."""
+        names = made("many", """
+            typedef long Row[1000]; typedef sequence<Row> Rows; typedef sequence<boolean> Flags;
+            union Some switch (char) { case 'a': Row numbers; }; typedef sequence<Some> Somes;
+            struct Kinds { sequence<char> chars; double reals[300]; sequence<octet> octets; float few[2]; };
+            interface Many { long sum(in Rows all, in Flags those); long count(in Somes all); Kinds keep(in Kinds one); };
+        """)
+
+        class Servant(names._POA_Many):
+            def sum(self, all: Any, those: Any) -> int:
+                return sum(map(sum, all)) + sum(those)
+
+            def count(self, all: Any) -> int:
+                return len(all)
+
+            def keep(self, one: Any) -> Any:
+                return one
+
+        async def calls() -> None:
+            async with lr.Server() as server:
+                idl.add(server, "many", Servant())
+                await server.listen()
+                async with names.Many._of(server.reference("many"), timeout=SECONDS) as stub:
+                    rows = [list(range(row, row + 1000)) for row in range(60)]
+                    flags = [bool(one % 3) for one in range(700000)]
+                    begun = time.process_time()
+                    self.assertEqual(await stub.sum(rows, flags), sum(map(sum, rows)) + sum(flags))
+                    self.assertLess(time.process_time() - begun, 0.5)
+                    kinds = names.Kinds("a\xff\0", [one / 2 for one in range(300)], b"\0\xff", [0.5, 2])
+                    self.assertEqual(await stub.keep(kinds), kinds)
+                    for member, value, kind, text in (("reals", [0.5] * 299 + ["x"], TypeError, "reals: [299]: 'x' is no double"),
+                                                      ("few", [1.0, 1e39], ValueError, "few: [1]: 1e+39 is no float"),
+                                                      ("chars", "a\u20ac", ValueError, "chars: [1]: '\u20ac' is no char")):
+                        with self.assertRaisesRegex(kind, "keep: one: " + re.escape(text)):
+                            await stub.keep(names.Kinds(**{**vars(kinds), member: value}))
+                    for value, text in ((1 << 31, "2147483648 is no long"), (True, "True is no long")):
+                        with self.assertRaisesRegex((TypeError, ValueError), re.escape(f"sum: all: [0]: [999]: {text}")):
+                            await stub.sum([[0] * 999 + [value]], [])
+                    with self.assertRaisesRegex(TypeError, re.escape("sum: those: [1]: 1 is no boolean")):
+                        await stub.sum([], [True, 1])
+                    nothing = [names.Some("b", None)]
+                    self.assertEqual(await stub.count(nothing * 65536), 65536)
+                    with self.assertRaises(lr.SystemException) as caught:
+                        await stub.count(nothing * 65537)
+                    self.assertEqual(str(caught.exception), "MARSHAL, minor 0, COMPLETED_NO")
+
+        asyncio.run(calls())
+
+    def test_what_is_made_of_a_request(self) -> None:
+        """It takes 25 times its octets and 256 for each element at most, whatever the types; beyond it is refused."""
+        names = made("grown", """
+            struct One { octet x; }; typedef One Many[250]; struct Deep { Many some; };
+            union Either switch (char) { case 'a': long big[1000]; case 'b': One first; };
+            typedef sequence<One> Ones; typedef sequence<Deep> Deeps; typedef sequence<Either> Eithers;
+            typedef sequence<short> Shorts; typedef sequence<boolean> Flags; typedef sequence<string> Texts;
+            typedef sequence<octet> Octets; typedef sequence<Octets> Pieces;
+            interface Grown {
+              void put_ones(in Ones all); void put_deeps(in Deeps all); void put_eithers(in Eithers all);
+              void put_shorts(in Shorts all); void put_flags(in Flags all); void put_texts(in Texts all);
+              void put_pieces(in Pieces all);
+            };
+        """)
+        most, all_of = 1 << 18, 16384
+
+        def kept(name: str, count: int, octets: bytes) -> Any:
+            """What is made of so many elements, and of how many octets; the memory that it took."""
+            operation = names._i_Grown.operations[name]
+            body = lr.Body(struct.pack(">L", count) + octets, max_elements=all_of)
+            tracemalloc.start()
+            try:
+                plain = (body,) if operation.is_raw else body.unpack(operation.signature.arguments)
+                found = operation.values(plain)
+                return found, len(body.octets), tracemalloc.get_traced_memory()[1]
+            finally:
+                tracemalloc.stop()
+
+        text = struct.pack(">L", 11) + b"abcdefghij\0\0"
+        for name, count, octets in (("put_ones", all_of, bytes(all_of)), ("put_deeps", 65, bytes(250 * 65)),
+                                    ("put_eithers", all_of, b"c" * all_of), ("put_eithers", 8192, b"b\1" * 8192),
+                                    ("put_shorts", most // 2, b"\x7f\1" * (most // 2)), ("put_flags", most, bytes(most)),
+                                    ("put_texts", all_of, text * all_of), ("put_pieces", all_of, bytes(4 * all_of))):
+            with self.subTest(name=name, count=count):
+                (found,), size, memory = kept(name, count, octets)
+                self.assertEqual(len(found), count)
+                self.assertLess(memory, 25 * size + 256 * all_of)
+        for name, count, octets in (("put_deeps", 66, bytes(250 * 66)), ("put_ones", all_of + 1, bytes(all_of + 1)),
+                                    ("put_eithers", 8193, b"b\1" * 8193)):
+            with self.subTest(name=name, count=count), self.assertRaises((lr.LemonrudderError, lr.Refuse)):
+                kept(name, count, octets)
 
     def test_packages(self) -> None:
         """Two files may have parts of one module; a package of another origin stays as it is."""
@@ -778,7 +897,7 @@ class Bank(unittest.TestCase):
 
 # ---- refusals ----
 
-LEFT_OUT = "it is left out; an operation with it can be served and called as a raw operation, by its octets"
+LEFT_OUT = "it is left out; by -Wbpartial an operation with it is a raw one, which is served and called by its octets"
 # an IDL text, and the lines of standard error: what stands behind the name of the file
 REFUSED = {
     "any": ("interface I {\n  void f(in any x);\n};", [f":2: any: {LEFT_OUT}"]),
@@ -798,11 +917,10 @@ REFUSED = {
     "a local interface": ("local interface I {};", [f":1: a local interface: {LEFT_OUT}"]),
     "any in a union": ("union U switch (long) {\n  case 1: any b;\n};", [f":2: any: {LEFT_OUT}"]),
     "any in an exception": ("exception E {\n  any b;\n};", [f":2: any: {LEFT_OUT}"]),
-    "a struct in itself": ("struct S;\ntypedef sequence<S> Some;\nstruct S { Some inner; };",
-                           [f":2: S, which is not whole here: {LEFT_OUT}", f":3: S holds itself: {LEFT_OUT}"]),
-    "a union in itself": ("union U switch (long) { case 1: sequence<U> inner; };",
-                          [f":1: U holds itself: {LEFT_OUT}"]),
-    "a context clause": ('interface I {\n  void f() context ("a");\n};', [":2: a context clause: it is left out"]),
+    "any in a struct that holds itself": (
+        "struct S;\ntypedef sequence<S> Some;\nstruct S { Some inner;\n  any x; };\nstruct T { Some more; };",
+        [f":4: any: {LEFT_OUT}", f":5: Some: S: any: {LEFT_OUT}"]),
+    "a context clause": ('interface I {\n  void f() context ("a");\n};', [f":2: a context clause: {LEFT_OUT}"]),
     "two at once": ("interface I {\n  void f(in any x);\n  void g(in wchar x);\n};",
                     [f":2: any: {LEFT_OUT}", f":3: wchar: {LEFT_OUT}"]),
     "what is refused in a module": ("module M {\n  struct S {\n    any x;\n  };\n  interface I {\n"

@@ -4,6 +4,7 @@ What is read is compared with the rows and cases of `giop show`, with octets of 
 tests/engine.py. The library is that of LEMONRUDDER_LIBRARY, or the one that tests/programs.py finds.
 """
 import asyncio
+import contextlib
 import gc
 import glob
 import itertools
@@ -21,6 +22,7 @@ import sys
 import tempfile
 import time
 import unittest
+from functools import partial
 from unittest import mock
 
 from scripts.library import VERSION, serves
@@ -28,18 +30,19 @@ from tests import base, cases, cdr, giop, rows
 from tests import engine as model
 from tests import engine_model
 from tests.cdr import Octets
-from tests.programs import NEEDS, ROOT, library, needs
+from tests.programs import NEEDS, ROOT, library, needs, tool
 
 if "LEMONRUDDER_LIBRARY" not in os.environ:
     os.environ["LEMONRUDDER_LIBRARY"] = os.path.join(library(), "lib", "liblemonrudder.so")
 sys.path.insert(0, os.path.join(ROOT, "bindings", "python"))
 
 import lemonrudder as lr  # noqa: E402
-from lemonrudder import BIG, LITTLE, Error, Signature, _connection, _lines, _server, _works  # noqa: E402
+from lemonrudder import BIG, LITTLE, Error, Signature, _connection, _lines, _references, _server, _works  # noqa: E402
 from lemonrudder._connection import Connection  # noqa: E402
 from lemonrudder._library import library as native  # noqa: E402
 from lemonrudder._library import serves as serves_here  # noqa: E402
 from lemonrudder._table import FUNCTIONS  # noqa: E402
+from lemonrudder.idl import Stub  # noqa: E402
 
 SEED = 31
 SCRIPTS = 300
@@ -206,6 +209,67 @@ class Formats(Case):
                 for _ in range(3):
                     cut = out.all[:dice.randrange(len(out.all))]
                     self.fails(Error.SHORT, lr.unpack, format, cut, order, at)
+
+    def test_many_values_at_once(self):
+        """Sequences of numbers, and of structs of these, are read and written as value by value."""
+        dice = Dice(SEED)
+        numbers = ["?", "c", *SIZES, *REALS, ("enum", 5)]
+        kinds = [*numbers, *(("struct", *(dice.choice(numbers) for _ in range(dice.randint(1, 6)))) for _ in range(40)),
+                 ("struct", "h", ("struct", "d", "B"), "l"), ("struct", ("struct", ("struct", "q")), "?")]
+        for kind, order, at in itertools.product(kinds, (BIG, LITTLE), (0, 3)):
+            values = [some_value(dice, kind) for _ in range(dice.choice([1, 2, 9, 100]))]
+            out, format = Octets(at, ORDERS[order]), format_of(("sequence", kind))
+            spelled(out, ("sequence", kind), values)
+            with self.subTest(format=format, order=order, at=at):
+                self.assertEqual(lr.pack("?" + format + "B", True, values, 7, order=order, at=at - 1 & 7),
+                                 b"\1" + bytes(-at & 3) + self.behind(format, values, order, at) + b"\7")
+                self.assertEqual(lr.pack(format, values, order=order, at=at), out.all)
+                self.assertEqual(lr.pack(format, tuple(values), order=order, at=at), out.all)
+                (found,), (again,) = lr.unpack(format, out.all, order, at), lr.unpack(format, out.all + b"more", order, at)
+                self.assertEqual((found, again), (values, values))
+                self.assertEqual([type(one) for one in found], [type(one) for one in values])
+                for _ in range(4):
+                    size = dice.randrange(len(out.all))
+                    error = self.fails(Error.SHORT, lr.unpack, format, out.all[:size], order, at)
+                    self.assertLessEqual(int(re.search(r"at octet (\d+)", str(error)).group(1)), size)
+
+    def behind(self, format, values, order, at):
+        """A sequence as it is written behind an octet, without the padding before its length."""
+        return lr.pack(format, values, order=order, at=at + (-at & 3))
+
+    def test_faults_amid_many(self):
+        """They are found where they stand."""
+        for format, good, bad, at in (("[?]", b"\0\1\0", b"\2", 7), ("[?]", b"\0\1\0", b"", 7),
+                                      ("[e3]", b"\0\0\0\2", b"\0\0\0\3", 8), ("[l]", bytes(8), b"\0\0", 12),
+                                      ("[(h?)]", b"\0\7\1\0\0\5\0\0", b"\0\7\2", 14), ("[d]", b"", bytes(7), 4)):
+            octets = b"\0\0\0\7" + good + bad
+            with self.subTest(format=format), self.assertRaises(lr.LemonrudderError) as caught:
+                lr.unpack(format, octets)
+            self.assertIn(f"at octet {at}", str(caught.exception))
+            self.assertIs(caught.exception.number, Error.VALUE if format in ("[e3]", "[(h?)]") or bad == b"\2" else Error.SHORT)
+        for format, values, text in (("[l]", [1, 1 << 31], "2147483648 is no long"), ("[?]", [True, 1], "1 is no bool"),
+                                     ("[B]", [255, 256], "256 is no octet"), ("[c]", ["a", "bc"], "'bc' is not one"),
+                                     ("[f]", [1.0, 1e39], "1e+39 is no float"), ("[d]", [1.0, "x"], "'x' is no float"),
+                                     ("[e2]", [1, 2], "2 is not one of 2"), ("[(hh)]", [(1, 2), (3, 40000)], "40000 is no"),
+                                     ("[(hh)]", [(1, 2), (3,)], "a struct of 2 members"), ("[q]", [1, None], "NoneType")):
+            with self.subTest(format=format), self.assertRaises((TypeError, ValueError)) as caught:
+                lr.pack(format, values)
+            self.assertIn(text, str(caught.exception))
+        self.assertEqual(lr.unpack("[d]l", bytes(4) + b"\0\0\0\5"), ([], 5))
+        self.assertEqual(lr.pack("[d]l", [], 5), bytes(4) + b"\0\0\0\5")
+        self.assertEqual(lr.pack("[c][c]", "ab", [b"c", "d"]), lr.pack("oxo".replace("x", ""), b"ab", b"cd"))
+
+    def test_a_megabyte_is_read_at_once(self):
+        """.. of numbers, within a few of the milliseconds that struct takes."""
+        for letter, size in {"?": 1, "c": 1, "e5": 4, **SIZES, **REALS}.items():
+            octets = struct.pack(">L", 1000000 // size) + bytes(1000000)
+            with self.subTest(letter):
+                begun = time.process_time()
+                values, = lr.unpack(f"[{letter}]", octets, at=4)
+                read = time.process_time()
+                self.assertEqual(lr.pack(f"[{letter}]", values, at=4), octets)
+                self.assertLess(read - begun, 0.25)
+                self.assertLess(time.process_time() - read, 0.25)
 
     def test_padding_is_not_looked_at(self):
         self.assertEqual(lr.unpack("Bl", b"\1\xee\xee\xee\0\0\0\2"), (1, 2))
@@ -642,6 +706,21 @@ class References(Case):
         self.assertEqual(lr.Ior.parse(COUNTER.encode()), lr.Ior.parse(COUNTER))
         self.assertEqual(len({lr.Ior.parse(COUNTER), lr.Ior.parse(COUNTER)}), 1)
 
+    def test_urls(self):
+        """They go to the library as they stand; what it does not take is named, if it is not long."""
+        url, heard = "corbaloc:iiop:1.1@h:7,:[::1]/Dev%2f%C3%A9", []
+
+        def parse(slot, octets, size):
+            heard.append((octets, size))
+            return Error.REFERENCE
+        with mock.patch.object(_references.library, "lr_ior_parse", parse):
+            for call in (lr.Ior.parse, lr.Client.of, Stub._of):
+                error = self.fails(Error.REFERENCE, call, f" {url}\n")
+                self.assertEqual(error.text, f"no stringified reference: '{url}'")
+        self.assertEqual(heard, 3 * [(url.encode(), len(url))])
+        self.assertEqual(self.fails(Error.REFERENCE, lr.Ior.parse, "IOR:" + "g" * 200).text,
+                         f"no stringified reference: 'IOR:{'g' * 56}' and 144 characters more")
+
     def test_components_in_both_orders(self):
         for order in (BIG, LITTLE):
             components = [(0, b"\1\2"), (1, b""), (0xffffffff, bytes(300))]
@@ -673,7 +752,7 @@ class References(Case):
         self.assertEqual((nil.type_id, nil.profiles), ("", ()))
 
     def test_what_is_none(self):
-        for bad in ("", "IOR", "IOR:", "IOR:0", "IOR:0g", "corbaloc::h/k", COUNTER[:-20], "IOR:\u20ac", COUNTER[4:]):
+        for bad in ("", "IOR", "IOR:", "IOR:0", "IOR:0g", "corbaloc:h/k", COUNTER[:-20], "IOR:\u20ac", COUNTER[4:]):
             with self.subTest(bad):
                 self.fails(Error.REFERENCE, lr.Ior.parse, bad)
         self.fails(Error.RANGE, lr.Ior.iiop, "IDL:X:1.0", "h", 1, b"k", 3)
@@ -2449,9 +2528,7 @@ class Waits(Case):
                 server.remove("factory")
                 server.remove_family("acct/")
                 go.set()
-                with self.assertRaises(lr.SystemException) as caught:
-                    await call
-                self.assertEqual((caught.exception.name, caught.exception.completed), ("INTERNAL", 2))
+                self.assertEqual(await call, 3)
                 self.assertEqual(await client.call("acct/7", "get", results="s"), "get")
                 server.remove("made/x")
                 self.fails(Error.OBJECT, server.remove, "made/x")
@@ -2459,6 +2536,94 @@ class Waits(Case):
                 self.assertEqual(await client.call("k", "get", results="l"), 1)
         with self.assertLogs("lemonrudder"):
             self.run_async(main())
+
+
+    def test_an_object_is_taken_away_while_it_is_called(self):
+        """What is under way ends by its own types, and is kept; who comes then hears that there is no such object."""
+        async def main(prefix, add, remove, version):
+            go, performed = asyncio.Event(), []
+
+            async def wait(number):
+                performed.append(number)
+                await go.wait()
+                if number == 2:
+                    raise lr.UserException(OVERFLOW, (7, "x"))
+                if number == 3:
+                    raise lr.SystemException("NO_PERMISSION", 5)
+                return number, [(number, 0.5)]
+
+            def bye():
+                """It takes its own object away."""
+                remove(server, prefix)
+                return 4, []
+
+            raw = [lr.RawReply(b"\1\2\3", LITTLE), lr.RawReply(lr.pack("s", OVERFLOW), BIG, 1)]
+
+            async def waiting(body):
+                await go.wait()
+                return raw[body.unpack("l")[0]]
+
+            types = ("l", "l[(ld)]")
+            operations = {"wait": (*types, wait), "bye": ("", types[1], bye), "raw": waiting}
+            server, key = lr.Server(), prefix + "1"
+            add(server)(prefix, "IDL:K:1.0", operations, {"wait": {OVERFLOW: "ls"}})
+            port = await server.listen()
+
+            async def call(number, operation, *values, client="A", raises=True):
+                """What a call is answered under a number, once."""
+                async with lr.Client("127.0.0.1", port, client, keep_transient=False, version=version) as one:
+                    try:
+                        if operation == "raw":
+                            reply = await one.call_raw(key, operation, lr.pack("l", *values), number=number, expiration=FAR)
+                            return reply.octets, reply.order
+                        return await one.recall(number, key, operation, types[0] if values else "", values, types[1],
+                                                {OVERFLOW: "ls"}, expiration=FAR)
+                    except lr.UserException as error:
+                        return error.id, error.values
+                    except lr.SystemException as error:
+                        return error.name, error.minor, error.completed
+
+            gone, added = ("OBJECT_NOT_EXIST", 0, lr.Completed.NO), {"wait": ("", "s", lambda: "other")}
+            wanted = {(1, "wait", 1): (1, [(1, 0.5)]), (2, "wait", 2): (OVERFLOW, (7, "x")),
+                      (3, "wait", 3): ("NO_PERMISSION", 5, lr.Completed.NO), (4, "raw", 0): (b"\1\2\3", LITTLE),
+                      (5, "raw", 1): (OVERFLOW, ())}
+            # (in 1.0 and 1.1 a raw body would stand at another place)
+            wanted = {words: answer for words, answer in wanted.items() if version == 2 or words[1] != "raw"}
+            async with server, contextlib.AsyncExitStack() as stack:
+                stack.callback(go.set)
+                calls = {words: asyncio.ensure_future(call(*words)) for words in wanted}
+                while server.stats()["parked_now"] < len(wanted):
+                    await asyncio.sleep(0.01)
+                self.assertEqual(await call(6, "bye"), (4, []))
+                self.assertEqual(await call(7, "wait", 1), gone)
+                self.assertEqual(await call(6, "bye"), (4, []))
+                reader, writer = await asyncio.open_connection("127.0.0.1", port)
+                writer.write(lr.write_locate_request(1, key, version=version))
+                located, = lr.messages(await reader.read(4096))
+                self.assertIs(located.status, lr.LocateStatus.UNKNOWN_OBJECT)
+                writer.close()
+                joins = {words: asyncio.ensure_future(call(*words)) for words in wanted}
+                # (one of the same key has other types)
+                add(server)(prefix, "IDL:L:1.0", added)
+                while server.stats()["joined"] < len(wanted):
+                    await asyncio.sleep(0.01)
+                go.set()
+                for words, answer in wanted.items():
+                    for asked in (calls[words], joins[words], call(*words)):
+                        self.assertEqual(await asked, answer)
+                async with lr.Client("127.0.0.1", port) as one:
+                    self.assertEqual(await one.call(key, "wait", results="s"), "other")
+                self.assertEqual(sorted(performed), [1, 2, 3])
+
+        ways = (("o", lambda server: partial(self.add_one, server), lambda server, key: server.remove(key + "1")),
+                ("o/", lambda server: server.add_family, lambda server, key: server.remove_family(key)))
+        for (prefix, add, remove), version in itertools.product(ways, (0, 1, 2)):
+            with self.subTest(prefix=prefix, version=version):
+                self.run_async(main(prefix, add, remove, version))
+
+    def add_one(self, server, prefix, *described):
+        """Adds the object of a prefix, as a family is added."""
+        server.add(prefix + "1", *described)
 
 
 class Wire(asyncio.Transport):
@@ -2659,8 +2824,53 @@ class Bounds(Case):
                     await one.close()
         self.run_async(main())
 
+    def test_elements(self):
+        """A request with more elements than may be, each of which takes its time, is refused by MARSHAL."""
+        async def main():
+            performed = []
+
+            def take(values):
+                performed.append(len(values))
+                return len(values)
+
+            operations = {"pairs": ("[(ls)]", "l", take), "deep": ("[[(ls)]]", "l", take), "numbers": ("[l]", "l", take),
+                          "raw": lambda body: lr.pack("l", take(body.unpack("[s]")[0]))}
+            many, few = [(1, "")] * 70000, [(1, "")] * 60000
+            server, client = await self.pair(operations)
+            async with server, client:
+                async def refused(operation, format, value):
+                    with self.assertRaises(lr.SystemException) as caught:
+                        await client.call("k", operation, format, [value], "l")
+                    return str(caught.exception)
+
+                self.assertEqual(await refused("pairs", "[(ls)]", many), "MARSHAL, minor 0, COMPLETED_NO")
+                self.assertEqual(await refused("deep", "[[(ls)]]", [few[:30000], many[:40000]]),
+                                 "MARSHAL, minor 0, COMPLETED_NO")
+                self.assertEqual(performed, [])
+                for operation, format, value in (("pairs", "[(ls)]", few), ("numbers", "[l]", [1] * 200000),
+                                                 ("deep", "[[(ls)]]", [few[:30000], few[:30000]]), ("raw", "[s]", [""] * 9)):
+                    self.assertEqual(await client.call("k", operation, format, [value], "l"), len(value))
+                # (what a raw operation reads is its own: it may say what it is refused by)
+                self.assertEqual(await refused("raw", "[s]", [""] * 70000), "UNKNOWN, minor 0, COMPLETED_MAYBE")
+            for most, count in ((3, 3), (None, 70000)):
+                server, client = await self.pair(operations, max_elements=most)
+                async with server, client:
+                    self.assertEqual(await client.call("k", "pairs", "[(ls)]", [many[:count]], "l"), count)
+                    if most is not None:
+                        with self.assertRaises(lr.SystemException):
+                            await client.call("k", "pairs", "[(ls)]", [many[:most + 1]], "l")
+
+        with self.assertLogs("lemonrudder", "INFO") as logged:
+            self.run_async(main())
+        self.assertIn("'pairs' is refused on connection 1", logged.output[0])
+        self.assertEqual(lr.unpack("[s]l", lr.pack("[s]l", ["a"] * 3, 7), max_elements=3), (["a"] * 3, 7))
+        reader = lr.Reader(lr.pack("[s]l", ["a"] * 3, 7) * 2, max_elements=5)
+        reader.read("[s]l")
+        self.fails(Error.VALUE, reader.read, "[s]l")
+        self.assertEqual(reader.next, len(reader.octets) // 2)
+
     def test_connections(self):
-        """One that comes beyond the bound is dropped, and one that is silent for long is left."""
+        """One that comes beyond the bound takes the place of who is idle longest; who is silent for long is left."""
         async def main():
             go = asyncio.Event()
 
@@ -2668,28 +2878,92 @@ class Bounds(Case):
                 await go.wait()
                 return 1
 
-            server, client = await self.pair({"slow": ("", "l", slow)}, max_connections=2, idle_timeout=1)
+            operations = {"slow": ("", "l", slow), "get": ("", "l", lambda: 2)}
+            server, client = await self.pair(operations, max_connections=3, idle_timeout=4)
             async with server, client:
                 call = asyncio.ensure_future(client.call("k", "slow", results="l"))
-                reader, writer = await asyncio.open_connection(client.host, client.port)
-                await self.drained(server, 2)
-                other, third = await asyncio.open_connection(client.host, client.port)
-                with self.assertRaises(ConnectionError):
-                    self.assertEqual(await other.read(), b"")
-                    raise ConnectionError
-                message, = lr.messages(await reader.read())
-                self.assertIs(message.type, lr.MessageType.CLOSE_CONNECTION)
+                await self.drained(server, 1)
+                (longest, first), (shorter, second) = [await asyncio.open_connection(client.host, client.port)
+                                                       for _ in range(2)]
+                await self.drained(server, 3)
+                await asyncio.sleep(0.2)
+                # (half a message is something)
+                second.write(lr.write_request(1, "k", "get")[:20])
+                begun = time.monotonic()
+                async with lr.Client(client.host, client.port) as other:
+                    self.assertEqual(await other.call("k", "get", results="l", timeout=SECONDS), 2)
+                    self.assertLess(time.monotonic() - begun, 3)
+                    message, = lr.messages(await longest.read())
+                    self.assertIs(message.type, lr.MessageType.CLOSE_CONNECTION)
+                    second.write(lr.write_request(1, "k", "get")[20:])
+                    reply, = lr.messages(await shorter.read(4096))
+                    self.assertEqual(reply.body.unpack("l"), (2,))
+                    message, = lr.messages(await shorter.read())
+                    self.assertIs(message.type, lr.MessageType.CLOSE_CONNECTION)
                 self.assertFalse(call.done())
                 go.set()
                 self.assertEqual(await call, 1)
-                self.assertEqual(server.stats()["turned_away"], 1)
-                for one in (writer, third):
+                self.assertEqual(server.stats()["turned_away"], 0)
+                for one in (first, second):
                     one.close()
         with self.assertLogs("lemonrudder", "INFO") as logged:
             self.run_async(main())
         text = "\n".join(logged.output)
-        self.assertIn("is turned away", text)
+        self.assertEqual(text.count("another one takes its place"), 1)
         self.assertIn("it was idle", text)
+
+    def test_connections_that_are_all_busy(self):
+        """One that comes beyond the bound then waits, until one has been idle for a second."""
+        async def main():
+            async def slow():
+                await go.wait()
+
+            go = asyncio.Event()
+            server, client = await self.pair({"slow": ("", "", slow), "get": ("", "l", lambda: 2)}, max_connections=1)
+            async with server, client, lr.Client(client.host, client.port) as other:
+                call = asyncio.ensure_future(client.call("k", "slow"))
+                await self.drained(server, 1)
+                get = asyncio.ensure_future(other.call("k", "get", results="l"))
+                await asyncio.sleep(1.5)
+                self.assertEqual((get.done(), call.done(), server.connections), (False, False, 1))
+                go.set()
+                await asyncio.wait([call])
+                begun = time.monotonic()
+                self.assertEqual(await get, 2)
+                # (who has just been answered has not been idle since it asked)
+                self.assertGreater(time.monotonic() - begun, 0.9)
+        with self.assertLogs("lemonrudder"):
+            self.run_async(main())
+
+    def test_silent_peers(self):
+        """There may be more of them than the server has connections or descriptors for: others are served."""
+        program = """if True:
+            import asyncio, lemonrudder, resource, sys
+            resource.setrlimit(resource.RLIMIT_NOFILE, (32, 32))
+            async def main():
+                server = lemonrudder.Server(max_connections=int(sys.argv[1]))
+                server.add("k", "IDL:K:1.0", {"get": ("", "l", lambda: 1)})
+                print(await server.listen(), flush=True)
+                await server.serve_forever()
+            asyncio.run(main())
+        """
+
+        async def call(port):
+            async with lr.Client("127.0.0.1", port) as client:
+                return await client.call("k", "get", results="l", timeout=15)
+
+        for most in (10, 1000):
+            with self.subTest(most=most), contextlib.ExitStack() as stack:
+                words = [sys.executable, "-c", program, str(most)]
+                path = os.path.join(ROOT, "bindings", "python")
+                server = subprocess.Popen(words, stdout=subprocess.PIPE, stderr=subprocess.PIPE, text=True,
+                                          env={**os.environ, "PYTHONPATH": path})
+                stack.callback(server.communicate)
+                stack.callback(server.kill)
+                port = int(server.stdout.readline())
+                for _ in range(60):
+                    stack.enter_context(socket.create_connection(("127.0.0.1", port)))
+                self.assertEqual(asyncio.run(call(port)), 1)
 
     def test_connections_that_come_while_it_closes(self):
         """Those that are accepted then are dropped, and no line of a log that an operator reads speaks of them."""
@@ -2860,6 +3134,109 @@ class Addresses(Case):
                 self.assertEqual(await client.call("k", "op", "l", [8], "l"), 6)
             body = [lr.pack("l", number) for number in (7, 8, 8)]
             self.assertEqual(seen, [(b"k", "op", number, octets) for number, octets in zip((1, 2, 2), body)])
+        self.run_async(main())
+
+    def test_urls(self):
+        """A client of a URL `corbaloc:` calls the object of its key at its addresses."""
+        async def main():
+            server, client = await self.pair({"get": ("", "l", lambda: 7)})
+            urls = [f"corbaloc:{places}/k" for places in (f":127.0.0.1:{client.port}", f"iiop:1.0@127.0.0.1:{client.port}",
+                                                          f":127.0.0.1:{self.closed_port()},:127.0.0.1:{client.port}")]
+            async with server:
+                for url in urls:
+                    async with lr.Client.of(url) as one:
+                        self.assertEqual(await one.call(one.key, "get", results="l"), 7)
+            await client.close()
+        try:
+            lr.Ior.parse("corbaloc::h:1/k")
+        except lr.LemonrudderError:
+            self.skipTest(NEEDS + "a library that reads URLs corbaloc:")
+        self.run_async(main())
+
+    async def mute(self):
+        """A server that takes all and says nothing: its port, and the numbers of the calls that came."""
+        came = []
+
+        async def serve(reader, writer):
+            assembler = lr.Assembler()
+            while octets := await reader.read(4096):
+                came.extend(one.ft.retention_id for one in assembler.feed(octets) if one.ft is not None)
+            writer.close()
+
+        listener = await asyncio.start_server(serve, "127.0.0.1", 0)
+        self.addCleanup(listener.close)
+        return listener.sockets[0].getsockname()[1], came
+
+    def test_an_address_that_says_nothing(self):
+        """It is left for the next one, where the calls keep their numbers; later ones go there at once."""
+        async def main():
+            server, client = await self.pair({"add": ("l", "l", lambda number: numbers.append(
+                (number, lr.current().retention_id)) or number)})
+            numbers, first, second = [], await self.mute(), await self.mute()
+            reference = self.reference(first[0], second[0], client.port)
+            async with server, lr.Client.of(reference, answer_timeout=0.3) as both:
+                begun = time.monotonic()
+                calls = [both.call("k", "add", "l", [number], "l", timeout=30) for number in (7, 8)]
+                self.assertEqual(await asyncio.gather(*calls), [7, 8])
+                self.assertEqual(await both.call("k", "add", "l", [9], "l"), 9)
+                self.assertLess(time.monotonic() - begun, 10)
+                self.assertEqual((first[1], second[1], numbers), ([1, 2], [1, 2], [(7, 1), (8, 2), (9, 3)]))
+            async with lr.Client.of(self.reference(first[0], second[0]), answer_timeout=0.3) as none:
+                with self.assertRaises(lr.Expired) as caught:
+                    await none.call("k", "add", "l", [7], "l", timeout=1)
+                self.assertIn("said nothing for 0.3 seconds", str(caught.exception.__cause__))
+                self.assertGreater(caught.exception.sent, 2)
+            await client.close()
+        self.run_async(main())
+
+    def test_the_share_of_an_address(self):
+        """Where nothing is said, each of them has its share of the time of a call."""
+        async def main():
+            server, client = await self.pair({"get": ("", "l", lambda: 7)})
+            (first, came), (second, others) = await self.mute(), await self.mute()
+            async with server, lr.Client.of(self.reference(first, second, client.port)) as both:
+                long = asyncio.ensure_future(both.call("k", "get", results="l", expiration=FAR))
+                begun = time.monotonic()
+                self.assertEqual(await both.call("k", "get", results="l", timeout=3), 7)
+                self.assertEqual(await long, 7)
+                self.assertGreater(time.monotonic() - begun, 1.5)
+            self.assertEqual((came, others), ([1, 2], [1, 2]))
+            await client.close()
+        self.run_async(main())
+
+    def test_an_address_that_takes_its_time(self):
+        """One that has no other beside it is not left, nor one that says something."""
+        async def main():
+            async def slow(seconds):
+                performed.append(seconds)
+                await asyncio.sleep(seconds)
+                return 1
+
+            performed, idle = [], await self.mute()
+            server, client = await self.pair({"slow": ("d", "l", slow)})
+            async with server, lr.Client.of(self.reference(client.port), answer_timeout=0.2) as alone:
+                self.assertEqual(await alone.call("k", "slow", "d", [1.0], "l"), 1)
+                async with lr.Client.of(self.reference(client.port, idle[0]), answer_timeout=1.0) as both:
+                    long = asyncio.ensure_future(both.call("k", "slow", "d", [2.5], "l"))
+                    for _ in range(8):
+                        self.assertEqual(await both.call("k", "slow", "d", [0.3], "l"), 1)
+                    self.assertEqual(await long, 1)
+                    # (what was silent while nothing was asked is asked as before)
+                    await asyncio.sleep(1.5)
+                    self.assertEqual(await both.call("k", "slow", "d", [0.5], "l"), 1)
+                self.assertEqual((server._last, idle[1]), (2, []))
+            await client.close()
+        self.run_async(main())
+
+    def test_a_forward_to_one_that_says_nothing(self):
+        """Its calls are asked for as at first."""
+        async def main():
+            there, came = await self.mute()
+            port, seen = await self.script([self.forward(there), self.returned(5), self.returned(6)])
+            async with lr.Client("127.0.0.1", port, answer_timeout=0.3, delays=(0.001, 0.01)) as client:
+                self.assertEqual(await client.call("k", "get", results="l", timeout=30), 5)
+                self.assertEqual(await client.call("k", "get", results="l", timeout=30), 6)
+            self.assertEqual(([number for _, _, number, _ in seen], came), ([1, 1, 2], [1]))
         self.run_async(main())
 
     def test_a_server_that_moves(self):
@@ -3039,6 +3416,24 @@ class Tls(Case):
                         await wrong.call("k", "who", "o", [b""], "so", timeout=0.5)
                 self.assertIsInstance(caught.exception.__cause__, ssl.SSLError)
                 self.assertEqual(caught.exception.sent, 0)
+        with tempfile.TemporaryDirectory() as folder:
+            self.run_async(main(*self.contexts(folder)))
+
+    def test_silent_peers(self):
+        """Those that do not even begin TLS make place too."""
+        async def main(served, called):
+            server = lr.Server(max_connections=2)
+            server.add("k", "IDL:K:1.0", {"get": ("", "l", lambda: 1)})
+            port = await server.listen(ssl=served)
+            tls = {"ssl": called, "server_hostname": "localhost"}
+            async with server, lr.Client("127.0.0.1", port, **tls) as client, lr.Client("127.0.0.1", port, **tls) as other:
+                self.assertEqual(await client.call("k", "get", results="l"), 1)
+                silent = [socket.create_connection(("127.0.0.1", port)) for _ in range(3)]
+                self.assertEqual(await other.call("k", "get", results="l", timeout=20), 1)
+                # (one that has its place is asked as before)
+                self.assertEqual(await client.call("k", "get", results="l", timeout=20), 1)
+                for one in silent:
+                    one.close()
         with tempfile.TemporaryDirectory() as folder:
             self.run_async(main(*self.contexts(folder)))
 
@@ -3241,9 +3636,18 @@ class Library(Case):
         self.assertEqual((error.number, error.name), (-1000, "LR_E_UNKNOWN"))
         self.assertIn("(-1000)", str(error))
 
+    def test_exceptions_say_what_they_are(self):
+        """In CORBA's terms, also numbers that have no name."""
+        for error, text in ((lr.SystemException("INTERNAL", 0, 2), "INTERNAL, minor 0, COMPLETED_MAYBE"),
+                            (lr.SystemException("IDL:x:1.0", 7), "IDL:x:1.0, minor 7, COMPLETED_NO"),
+                            (lr.SystemException("UNKNOWN", 7, 9), "UNKNOWN, minor 7, COMPLETED_9"),
+                            (lr.Refuse("IMP_LIMIT", 3), "IMP_LIMIT, minor 3, COMPLETED_NO")):
+            self.assertEqual(str(error), text)
+        self.assertEqual(lr.SystemException("INTERNAL", 0, 2).args, ("INTERNAL", 0, lr.Completed.MAYBE))
+
     def test_versions(self):
         """The module takes the versions that scripts/library.py says."""
-        self.assertEqual(".".join(map(str, lr.VERSION)), VERSION)
+        self.assertEqual((".".join(map(str, lr.VERSION)), lr.__version__), (VERSION, VERSION))
         some = [*itertools.product((0, 1, 2), (0, 1, 2), (0, 1, 10))]
         for version, built in itertools.product(some, some):
             texts = [".".join(map(str, each)) for each in (version, built)]
@@ -3339,5 +3743,26 @@ class Library(Case):
         examples = sorted(glob.glob(os.path.join(ROOT, "examples", "*.py")))
         for words in (["--strict", os.path.join(package, "lemonrudder")], ["--ignore-missing-imports", *examples]):
             run = subprocess.run(["mypy", "--cache-dir", os.devnull, *words], env={**os.environ, "MYPYPATH": package},
+                                 capture_output=True, text=True, timeout=SECONDS)
+            self.assertEqual(run.returncode, 0, run.stdout + run.stderr)
+
+    @needs("mypy", "omniidl")
+    def test_types_of_idl(self):
+        """So are those of what is made of IDL, with references, and enumerators named like what an int has."""
+        names = [name for name in dir(int) if not name.startswith("_") and name != "is_integer"]
+        text = f"""
+            enum Kind {{ value, {", ".join(names)} }};
+            interface Named {{ readonly attribute string title; }};
+            struct Pair {{ Kind what; Named who; sequence<double> reals; }};
+            interface Desk : Named {{ Pair get(in Kind what, out Named who); Named find(in string key); }};
+        """
+        with tempfile.TemporaryDirectory() as folder:
+            path = os.path.join(folder, "desk.idl")
+            with open(path, "w", encoding="ascii") as file:
+                file.write(text)
+            subprocess.run([tool("omniidl"), "-p", os.path.join(ROOT, "idl"), "-blemonrudder", "-Wbpython",
+                            f"-C{folder}", path], check=True, timeout=SECONDS)
+            run = subprocess.run(["mypy", "--cache-dir", os.devnull, "--strict", os.path.join(folder, "desk_idl.py")],
+                                 env={**os.environ, "MYPYPATH": os.path.join(ROOT, "bindings", "python")},
                                  capture_output=True, text=True, timeout=SECONDS)
             self.assertEqual(run.returncode, 0, run.stdout + run.stderr)

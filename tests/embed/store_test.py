@@ -209,6 +209,36 @@ class OverAModel(unittest.IsolatedAsyncioTestCase):
                 self.model.late = None
                 await self.answers(7, number, "deposit", account, 7)
 
+    async def test_in_doubt_and_forgotten_by_then(self):
+        """What was committed is taken out before the store is asked for it: it may have acted, and that is not kept."""
+        find, far = self.model.find, 1 << 62
+
+        async def forget(key):
+            if self.model.accounts:
+                self.model.outcomes.clear()
+                self.model.least = far
+            return await find(key)
+
+        self.model.find = forget
+        for number, (operation, commits, cents) in enumerate((("deposit", ["lost"], 7), ("deposit", ["fails", "lost"], 7),
+                                                              ("fail_behind", [], 2)), 1):
+            with self.subTest((operation, commits)):
+                self.model.commits, self.model.least = list(commits), 0
+                self.model.accounts.clear()
+                self.assertEqual(await self.ask(number, operation, "a", cents, expiration=far - 1),
+                                 ("BAD_CONTEXT", 0, MAYBE))
+                self.assertEqual((self.model.accounts, self.model.outcomes), ({"a": cents}, {}))
+                # (a repeat has not acted itself)
+                self.assertEqual(await self.ask(number, operation, "a", cents, expiration=far - 1),
+                                 ("BAD_CONTEXT", 0, NO))
+
+    async def test_forgotten_before_it_is_kept(self):
+        """What was performed, and is kept behind it, may have acted, also in an attempt before."""
+        far = 1 << 62
+        self.model.between = lambda: setattr(self.model, "least", far)
+        self.assertEqual(await self.ask(1, "balance", "a", expiration=far - 1), ("BAD_CONTEXT", 0, MAYBE))
+        self.assertEqual((self.model.outcomes, self.bank.performed), ({}, 1))
+
     async def test_another_process_was_quicker(self):
         """What was done meanwhile is undone, and its outcome answered."""
         outcome = lr.Outcome(lr.ReplyStatus.NO_EXCEPTION, lr.LITTLE, (55).to_bytes(8, "little"))
@@ -328,6 +358,44 @@ class OverAModel(unittest.IsolatedAsyncioTestCase):
         await self.server.close()
         with self.assertRaises(lr.LemonrudderError):
             self.server.add(b"more", (), {}, servant=self.bank)
+
+    async def test_an_object_is_taken_away_while_it_is_called(self):
+        """What is under way is stored and answered by the types that it had."""
+        go = asyncio.Event()
+
+        async def later(account, cents):
+            await go.wait()
+            if cents == 0:
+                raise lr.UserException(OVERDRAWN, [5])
+            return cents if cents == 1 else await self.bank.deposit(account, cents)
+
+        self.server.add(b"later", (), {"deposit": ("sq", "q", later)}, {"deposit": {OVERDRAWN: "q"}})
+        wanted = {0: (OVERDRAWN, (5,)), 1: 1, 7: 7}
+        calls = {cents: asyncio.ensure_future(self.ask(cents + 1, "deposit", "a", cents, key=b"later")) for cents in wanted}
+        while self.server.stats()["under_way"] < len(wanted):
+            await asyncio.sleep(0)
+        self.server.remove(b"later")
+        await self.answers(("OBJECT_NOT_EXIST", 0, NO), 99, "deposit", "a", 1, key=b"later")
+        go.set()
+        for cents, answer in wanted.items():
+            self.assertEqual(await calls[cents], answer)
+            await self.answers(answer, cents + 1, "deposit", "a", cents, key=b"later")
+        self.assertEqual((self.model.accounts, self.bank.performed), ({"a": 7}, 1))
+
+    async def test_more_elements_than_may_be(self):
+        """What the store has is answered before such a request is refused."""
+        async with lr.Server(store=self.model, max_elements=3) as server:
+            server.add(KEY, (), {"deposit": ("sq[s]", "q", lambda account, cents, why: cents)})
+            port = await server.listen()
+
+            async def ask(count):
+                async with lr.Client("127.0.0.1", port, "client", keep_transient=False) as client:
+                    try:
+                        return await client.recall(1, KEY, "deposit", "sq[s]", ("a", 7, ["x"] * count), "q",
+                                                   expiration=ENDLESS)
+                    except lr.SystemException as error:
+                        return error.name, error.completed
+            self.assertEqual([await ask(4), await ask(3), await ask(4)], [("MARSHAL", NO), 7, 7])
 
     async def test_locates(self):
         """They are answered by what is on offer, also where that changes."""

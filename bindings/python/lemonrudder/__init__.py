@@ -67,6 +67,8 @@ from ._store import Kept, Store, StoreError
 from ._table import (VERSION, Completed, ContextId, Counted, Error, Fault, LocateStatus, MessageType, Order,
                      ReplyStatus, SystemName, Why, Wish)
 
+__version__ = ".".join(map(str, VERSION))
+
 __all__ = [
     "BIG", "FT_REQUEST", "LIMIT", "LITTLE", "PARTIALS", "REFERENCE", "VERSION", "Address", "Asked", "Assembler", "Body",
     "Catalogue", "Client", "Completed", "ContextId", "Counted", "Current", "Engine", "Error", "Expired", "Fault",

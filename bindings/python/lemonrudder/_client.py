@@ -31,6 +31,7 @@ class Settings:
     partials: int
     delays: Tuple[float, float]
     connect_timeout: float
+    answer_timeout: Optional[float]
     keep_transient: bool
     options: Mapping[str, Any]
 
@@ -52,7 +53,9 @@ class Client:
     call that TRANSIENT answers, unless it was completed, is sent again after a while, in place of raising.
     keep_forward: one that is forwarded is asked for under its number where it leads, on a connection of its own, and so
     are later calls of its key, until nobody answers there; in place of raising ForwardRequest. connect_timeout: the
-    seconds that a connection may take to be made. `options` go to loop.create_connection, as `ssl` and
+    seconds that a connection may take to be made. answer_timeout: the seconds that one of several places may say
+    nothing while calls are pending there, which are then sent to the next one under their numbers, or asked for as at
+    first where they were forwarded; None: its share of the time that a call has. `options` go to loop.create_connection, as `ssl` and
     `server_hostname`.
     Raises LemonrudderError (RANGE, TEXT); ValueError: no port.
     """
@@ -60,15 +63,15 @@ class Client:
     def __init__(self, host: str, port: int, client_id: Optional[Text] = None, *,
                  others: Sequence[Tuple[str, int]] = (), version: int = 2, limit: int = LIMIT, partials: int = PARTIALS,
                  delays: Tuple[float, float] = (0.02, 1.0), keep_transient: bool = True, keep_forward: bool = True,
-                 connect_timeout: float = 10.0, **options: Any) -> None:
+                 connect_timeout: float = 10.0, answer_timeout: Optional[float] = None, **options: Any) -> None:
         places = ((host, port), *others)
         for _, one in places:
             if not 0 < one < 65536:
                 raise ValueError(f"no port: {one}")
         self.client_id = octets_of(client_id if client_id is not None else secrets.token_hex(16))
         self.key, self.is_closed, self.keep_forward = b"", False, keep_forward
-        self._settings = Settings(self.client_id, version, limit, partials, delays, connect_timeout, keep_transient,
-                                  options)
+        self._settings = Settings(self.client_id, version, limit, partials, delays, connect_timeout, answer_timeout,
+                                  keep_transient, options)
         self._last = 0
         self._home: Tuple[Place, ...] = places
         # where calls go by, and the keys that are known to lead elsewhere

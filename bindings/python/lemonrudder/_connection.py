@@ -112,6 +112,11 @@ class Connection(asyncio.BufferedProtocol):
         """Whether nothing of it is left to do here."""
         return not (self.works or self._is_full or self._is_over or self._at < len(self._came))
 
+    @property
+    def is_quiet(self) -> bool:
+        """Whether it is idle, and has sent all that is due."""
+        return self.is_idle and not self.transport.is_closing() and not self._left()
+
     def farewell(self, reason: str = "") -> None:
         """Says goodbye, behind what is parked, and closes the connection then."""
         engine = self.server._engine

@@ -5,32 +5,30 @@ import asyncio
 import inspect
 import logging
 from contextvars import ContextVar
-from typing import TYPE_CHECKING, Any, Optional
+from typing import TYPE_CHECKING, Any, Optional, Union
 
-from ._cdr import BIG, pack, results_of
 from ._engine import Asked
-from ._library import LemonrudderError, now, octets_of
+from ._library import now
 from ._messages import FtRequest
-from ._outcomes import GiveUp, Outcome, Refuse, SystemException, UserException, known_name, system_outcome
-from ._servants import Judged, RawReply
+from ._outcomes import GiveUp, Outcome, Refuse, SystemException, UserException, system_outcome
+from ._servants import Judged
 from ._store import Kept, Store
-from ._table import Completed, Error, Order, ReplyStatus
+from ._table import Completed
 
 if TYPE_CHECKING:
     from ._server import Server
 
 # how many seconds pass before a store is asked again, at first and at most; how often a request is performed that came
-# to no end; how many octets the body of a reply has at most
+# to no end
 _LEAST, _MOST = 0.02, 1.0
 _TRIES = 5
-_LONGEST = 1048576
 
 
 class _Attempt:
-    """What a servant stored for its request, if it did; or that the store refused it."""
+    """What a servant stored for its request, if it did; or how the store refused it."""
 
     outcome: Optional[Outcome] = None
-    is_refused = False
+    refused: Union[Kept, Refuse, None] = None
 
 
 _ATTEMPT: ContextVar[_Attempt] = ContextVar("lemonrudder.attempt")
@@ -86,9 +84,10 @@ class Durable:
         what becomes of it, which is committed. Raises Refuse.
 
         What is in doubt, as a COMMIT whose answer was lost, is asked until the store says. Where it has nothing then,
-        the request is performed again: if the old COMMIT comes true yet, the new one can't.
+        the request is performed again: if the old COMMIT comes true yet, the new one can't. Where its outcome may have
+        been taken out meanwhile, nobody knows whether it acted, and the answer is COMPLETED_MAYBE.
         """
-        asked, delay, is_in_doubt = judged.asked, _LEAST, False
+        delay, is_in_doubt = _LEAST, False
         for _ in range(_TRIES):
             try:
                 found = await (self._asked(ft) if is_in_doubt else self.store.find(ft))
@@ -102,7 +101,7 @@ class Durable:
                 raise judged.answer
             if judged.answer is not None:
                 return judged.answer
-            ended = await self._attempt(asked, ft, judged.performer, is_in_doubt)
+            ended = await self._attempt(judged, ft, is_in_doubt)
             if ended is not None:
                 self._note_success()
                 return ended
@@ -112,11 +111,14 @@ class Durable:
         return unknown("TRANSIENT")
 
     async def _asked(self, ft: FtRequest) -> Optional[Outcome]:
-        """What the store has of a request; asked until it says."""
+        """What the store has of a request that has perhaps acted; asked until it says."""
         delay = _LEAST
         while True:
             try:
                 return await self.store.find(ft)
+            except Refuse as refused:
+                # (what was committed is perhaps forgotten)
+                return unknown(refused.name)
             except Exception as error:
                 if not self.store.is_trouble(error):
                     raise
@@ -124,17 +126,18 @@ class Durable:
             await asyncio.sleep(delay)
             delay = min(2 * delay, _MOST)
 
-    async def _attempt(self, asked: Asked, ft: FtRequest, performer: Any, is_in_doubt: bool) -> Optional[Outcome]:
+    async def _attempt(self, judged: Judged, ft: FtRequest, is_in_doubt: bool) -> Optional[Outcome]:
         """Performs a request of which the store has nothing. None: ask the store. Raises Refuse, but in doubt, where an
         earlier attempt may come true yet."""
-        attempt = _Attempt()
+        attempt, asked, performer = _Attempt(), judged.asked, judged.performer
+        assert performer is not None
         token = _ATTEMPT.set(attempt)
         returned: Any = None
         try:
             returned = performer.function(*((asked.body,) if asked.arguments is None else asked.arguments))
             if inspect.isawaitable(returned):
                 returned = await returned
-            if attempt.outcome is not None or attempt.is_refused:
+            if attempt.outcome is not None or attempt.refused is not None:
                 return attempt.outcome
         except Kept:
             return None
@@ -142,7 +145,9 @@ class Durable:
             is_trouble = self.store.is_trouble(error)
             if is_trouble:
                 self._note(error)
-            if attempt.is_refused:
+            if attempt.refused is not None:
+                if isinstance(error, Refuse) and error is attempt.refused and not is_in_doubt:
+                    raise
                 return None
             if attempt.outcome is not None:
                 # (its transaction is undone by what was raised in it, and committed before what was raised behind it;
@@ -161,20 +166,21 @@ class Durable:
             returned = error
         finally:
             _ATTEMPT.reset(token)
-        return await self._keep(ft, self._read(asked, returned))
+        return await self._keep(ft, self._read(judged, returned))
 
     def _write(self, asked: Asked, text: str, *words: object, error: BaseException) -> None:
         """Writes a line about the connection of a request."""
         about = self._server._connections.get(asked.connection, asked.connection)
         self._server._lines.write(about, logging.ERROR, text, *words, error=error)
 
-    def _read(self, asked: Asked, ended: Any) -> Outcome:
+    def _read(self, judged: Judged, ended: Any) -> Outcome:
         """The outcome that a servant's end is which it did not store."""
+        asked = judged.asked
         if isinstance(ended, Exception) and not isinstance(ended, (UserException, SystemException)):
             self._write(asked, "%a raised %s", asked.operation, type(ended).__name__, error=ended)
             return unknown("UNKNOWN")
         try:
-            return self.outcome(asked, ended)
+            return judged.outcome(ended)
         except Exception as error:
             self._write(asked, "no outcome of %a", asked.operation, error=error)
             return unknown("UNKNOWN" if isinstance(ended, Exception) else "INTERNAL")
@@ -187,7 +193,7 @@ class Durable:
                 async with self.store.transaction() as transaction:
                     await self.store.put(transaction, ft, outcome)
                 return outcome
-            except Kept:
+            except (Kept, Refuse):
                 pass
             except Exception as error:
                 if not self.store.is_trouble(error):
@@ -209,42 +215,18 @@ class Durable:
 
     # ---- what servants call ----
 
-    async def put(self, asked: Asked, transaction: Any, results: Any) -> Outcome:
+    async def put(self, judged: Judged, transaction: Any, results: Any) -> Outcome:
         """What Current.store does."""
-        outcome = self.outcome(asked, results)
+        asked, outcome = judged.asked, judged.outcome(results)
         if asked.ft is not None:
             attempt = _ATTEMPT.get()
             try:
                 await self.store.put(transaction, asked.ft, outcome)
-            except (Kept, Refuse):
-                attempt.is_refused = True
+            except (Kept, Refuse) as refused:
+                attempt.refused = refused
                 raise
-            attempt.outcome, attempt.is_refused = outcome, False
+            attempt.outcome, attempt.refused = outcome, None
         return outcome
-
-    def outcome(self, asked: Asked, ended: Any) -> Outcome:
-        """What a servant returns or raises as an outcome. Raises ValueError, TypeError, LemonrudderError (OUTCOME)."""
-        if isinstance(ended, SystemException):
-            return system_outcome(known_name(ended.name), ended.minor, ended.completed)
-        signature = self._server._offer.performer(asked.key, asked.operation).signature
-        if isinstance(ended, UserException):
-            if signature is None or ended.id not in signature.raises:
-                raise LemonrudderError(Error.OUTCOME, f"the operation does not raise {ended.id}")
-            body = pack("s" + signature.raises[ended.id], ended.id, *ended.values)
-            made = Outcome(ReplyStatus.USER_EXCEPTION, BIG, body)
-        elif isinstance(ended, Outcome):
-            made = ended
-        elif signature is not None:
-            body = pack(signature.results, *results_of(signature.results, ended))
-            made = Outcome(ReplyStatus.NO_EXCEPTION, BIG, body)
-        else:
-            reply = ended if isinstance(ended, RawReply) else RawReply(ended)
-            if not ReplyStatus.NO_EXCEPTION <= reply.status <= ReplyStatus.LOCATION_FORWARD:
-                raise ValueError(f"no status of an outcome: {reply.status}")
-            made = Outcome(ReplyStatus(reply.status), Order(reply.order), octets_of(reply.octets))
-        if len(made.body) > _LONGEST:
-            raise ValueError(f"a body of {len(made.body)} octets is too long")
-        return made
 
 
 def unknown(name: str) -> Outcome:

@@ -24,7 +24,8 @@ class Asked:
 
     ticket: a number of this request alone. arguments: the values of its arguments; None of a raw operation. body: its
     octets as they came, which begin with these. ft: what its FT_REQUEST says, if it carries one. contexts: how many
-    service contexts it has. refusal: by what it would be refused, where you are asked first: then it is raw.
+    service contexts it has. refusal: by what it would be refused, where you are asked first, or by what you are to
+    refuse it, where it has more than max_elements: then it is raw.
     """
 
     ticket: int
@@ -64,13 +65,16 @@ class Engine(Held):
     for the outcome of one, beside the last who came. max_due: of how many octets due on a connection on it is fed no
     more. max_client_id: the octets of a client's id. ask_first: whether a request with FT_REQUEST that would be refused
     for its object, its operation or its arguments comes to you first, who may have its outcome; else refuse it so.
+    max_elements: as of Reader, of the arguments of a request; one that has more comes to you with a refusal, MARSHAL.
     Raises LemonrudderError (EMPTY, RANGE): the catalogue is as it was.
     """
 
     def __init__(self, catalogue: Catalogue, limit: int = LIMIT, partials: int = PARTIALS, capacity: int = 65536,
                  share: Optional[int] = None, *, max_parked: int = 1024, max_parked_of: int = 64, max_joined: int = 8,
-                 max_due: int = 1048576, max_client_id: int = 256, ask_first: bool = False) -> None:
+                 max_due: int = 1048576, max_client_id: int = 256, ask_first: bool = False,
+                 max_elements: Optional[int] = None) -> None:
         super().__init__()
+        self._max_elements = max_elements
         self._room = ctypes.create_string_buffer(65536)
         self._head = structs["lr_request"]()
         # what waits, once it was asked for; and of each parked request its key and operation, and whether it is raw
@@ -164,14 +168,18 @@ class Engine(Held):
         ticket = head.ticket
         key, operation = self._part(ticket, Part.KEY), self._part(ticket, Part.OPERATION).decode("latin-1")
         octets = self._part(ticket, Part.BODY, head.body_size)
-        body, ft = Body(octets, Order(head.body_order), head.body_at), None
+        body, ft = Body(octets, Order(head.body_order), head.body_at, self._max_elements), None
         if head.has_client:
             ft = FtRequest(self._part(ticket, Part.CLIENT), head.retention_id, head.expiration)
-        arguments = None
+        arguments, refusal = None, SystemName(head.refusal) if head.is_refused else None
         if not head.is_raw:
-            arguments = body.unpack(self.signature(key, operation).arguments)
+            try:
+                arguments = body.unpack(self.signature(key, operation).arguments)
+            except LemonrudderError:
+                # (its values are valid, or it had not come: they are too many)
+                refusal = SystemName.MARSHAL
         return Asked(ticket, head.connection, key, operation, arguments, body, head.request_id, head.version,
-                     named(Wish, head.wish), ft, head.contexts, SystemName(head.refusal) if head.is_refused else None)
+                     named(Wish, head.wish), ft, head.contexts, refusal)
 
     def contexts(self, most: int = CONTEXTS) -> Tuple[Tuple[int, bytes], ...]:
         """Ids and data of the service contexts of the request that waits, the first `most` of them: reading them takes

@@ -28,18 +28,20 @@ class StreamError(LemonrudderError):
 
 @dataclass(frozen=True)
 class Body:
-    """Octets that hold values: their order, and the place of the first one, from which they are aligned."""
+    """Octets that hold values: their order, and the place of the first one, from which they are aligned. max_elements:
+    as of Reader."""
 
     octets: bytes = b""
     order: int = BIG
     at: int = 0
+    max_elements: Optional[int] = field(default=None, repr=False, compare=False)
 
     def reader(self) -> Reader:
-        return Reader(self.octets, self.order, self.at)
+        return Reader(self.octets, self.order, self.at, self.max_elements)
 
     def unpack(self, format: str) -> Tuple[Any, ...]:
         """The values at its front. Errors as of the function unpack."""
-        return unpack(format, self.octets, self.order, self.at)
+        return unpack(format, self.octets, self.order, self.at, self.max_elements)
 
 
 @dataclass(frozen=True)

@@ -46,6 +46,10 @@ class SystemException(Exception):
         self.name, self.minor, self.completed = name, minor, named(Completed, completed)
         super().__init__(self.name, self.minor, self.completed)
 
+    def __str__(self) -> str:
+        completed = self.completed.name if isinstance(self.completed, Completed) else self.completed
+        return f"{self.name}, minor {self.minor}, COMPLETED_{completed}"
+
 
 class Refuse(Exception):
     """Raised by a servant that refuses a request for now and has done nothing: the answer is a system exception with
@@ -59,6 +63,9 @@ class Refuse(Exception):
             raise ValueError(f"no name of SystemName: {name!r}")
         self.name, self.minor = name, minor
         super().__init__(self.name, self.minor)
+
+    def __str__(self) -> str:
+        return f"{self.name}, minor {self.minor}, COMPLETED_NO"
 
 
 class GiveUp(Exception):

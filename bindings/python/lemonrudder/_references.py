@@ -14,6 +14,8 @@ REFERENCE = "(s[(Lo)])"
 """The format of a reference among arguments or results, whose value is Ior.value."""
 # the tag of a component that names another host and port of a profile (9.7.3)
 _ALTERNATE = 3
+# how much of a text that is no reference its error shows
+_SHOWN = 60
 
 
 class Address(NamedTuple):
@@ -91,16 +93,20 @@ class Ior:
 
     @classmethod
     def parse(cls, text: Text) -> Ior:
-        """Reads a stringified reference; white space around it counts for nothing.
+        """Reads a stringified reference, `IOR:` or a URL, as the library does; white space around it counts for nothing.
 
         Raises LemonrudderError (REFERENCE).
         """
         with Held() as held:
             try:
                 octets = octets_of(text).strip()
+                call(library.lr_ior_parse, held._slot, octets, len(octets))
             except UnicodeEncodeError:
                 raise LemonrudderError(Error.REFERENCE) from None
-            call(library.lr_ior_parse, held._slot, octets, len(octets))
+            except LemonrudderError as error:
+                left = f" and {len(octets) - _SHOWN} characters more" if len(octets) > _SHOWN else ""
+                shown = octets[:_SHOWN].decode("latin-1")
+                raise LemonrudderError(error.number, f"{error.text}: {shown!r}{left}") from None
             return cls._of(held._slot)
 
     @classmethod

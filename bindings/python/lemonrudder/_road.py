@@ -30,6 +30,8 @@ class Call:
         self.ended: asyncio.Future[Tuple[Optional[int], Body]] = asyncio.get_running_loop().create_future()
         # how often it was sent, and what stood in the way last
         self.sent = 0
+        # the seconds that one place has to answer it, where nothing else is said
+        self.share = 0.0
         self.cause: Optional[BaseException] = None
 
 
@@ -54,6 +56,10 @@ class Road:
         self._delay = settings.delays[0]
         self._resending: Optional[asyncio.TimerHandle] = None
         self._ticking: Optional[asyncio.TimerHandle] = None
+        # since when the place has said nothing though calls are pending there, and why it is left for that
+        self._silent_since = self._share = 0.0
+        self._watching: Optional[asyncio.TimerHandle] = None
+        self._mute: Optional[TimeoutError] = None
         call(library.lr_client_open, self._slot, *lent(settings.client_id))
         for what, value in ((ClientSetting.VERSION, settings.version), (ClientSetting.MESSAGE, settings.limit),
                             (ClientSetting.PARTIALS, settings.partials),
@@ -76,6 +82,9 @@ class Road:
         if made.ended.done():
             made.ended = loop.create_future()
         self.greatest = made.number = number
+        made.share = (made.expiration - words[2]) / 10**7 / (len(self.places) + self.may_fail)
+        if not self.calls:
+            self._silent_since = loop.time()
         self.calls[number] = made
         made.sent += self._transport is not None
         self._settle()
@@ -84,6 +93,8 @@ class Road:
             self._task = loop.create_task(self._keep_connected())
         if self._ticking is None:
             self._tick()
+        if self._watching is None or made.share < self._share:
+            self._watch()
 
     def cancel(self, made: Call) -> None:
         """A call is no longer wanted."""
@@ -107,7 +118,7 @@ class Road:
             if not future.done():
                 future.set_exception(closed)
         self.calls.clear()
-        for timer in (self._resending, self._ticking):
+        for timer in (self._resending, self._ticking, self._watching):
             if timer is not None:
                 timer.cancel()
         if self._task is not None:
@@ -173,6 +184,23 @@ class Road:
             seconds = min(max(first - now(), 0) / 10**7 + 0.001, 1.0)
             self._ticking = asyncio.get_running_loop().call_later(seconds, self._tick)
 
+    def _watch(self) -> None:
+        """Leaves a place that says nothing though calls are pending there, where they may go elsewhere."""
+        if self._watching is not None:
+            self._watching.cancel()
+            self._watching = None
+        if self._transport is None or not self.calls or len(self.places) + self.may_fail < 2:
+            return
+        self._share = min(made.share for made in self.calls.values())
+        given, loop = self.settings.answer_timeout, asyncio.get_running_loop()
+        seconds = self._share if given is None else given
+        left = self._silent_since + seconds - loop.time()
+        if left > 0:
+            self._watching = loop.call_later(left, self._watch)
+        else:
+            self._mute, self._is_heard = TimeoutError(f"the address said nothing for {seconds:.3g} seconds"), False
+            self._transport.abort()
+
     def _later(self) -> float:
         """The seconds to wait now, by chance; the next time they are more."""
         delay, self._delay = self._delay, min(2 * self._delay, self.settings.delays[1])
@@ -182,7 +210,7 @@ class Road:
         """Connects while calls are pending, to one place after another."""
         failed = 0
         while self.calls:
-            self._is_heard = False
+            self._is_heard, self._mute = False, None
             is_made = False
             try:
                 link = await self._connect(self.place)
@@ -193,6 +221,7 @@ class Road:
             if self._is_heard:
                 failed = 0
                 continue
+            is_made = is_made and self._mute is None
             self._at += 1
             failed = 0 if is_made else failed + 1
             if self.may_fail and failed >= len(self.places):
@@ -249,16 +278,18 @@ class Road:
             self._cause = error
             transport.abort()
             return
-        self._transport = transport
+        self._transport, self._silent_since = transport, asyncio.get_running_loop().time()
         for made in self.calls.values():
             made.sent += 1
         self._settle()
         self._flush()
+        self._watch()
 
     def _receive(self, octets: bytes) -> None:
         """Octets came."""
         if self._is_closed or self._transport is None:
             return
+        self._silent_since = asyncio.get_running_loop().time()
         try:
             call(library.lr_client_feed, self._slot, octets, len(octets))
         except LemonrudderError as error:
@@ -273,9 +304,10 @@ class Road:
     def _lost(self) -> None:
         """The connection is gone."""
         self._transport = None
-        if self._resending is not None:
-            self._resending.cancel()
-            self._resending = None
+        for timer in (self._resending, self._watching):
+            if timer is not None:
+                timer.cancel()
+        self._resending = self._watching = None
         if not self._is_closed:
             call(library.lr_client_lost, self._slot)
 
@@ -307,4 +339,4 @@ class Link(asyncio.Protocol):
             self.road._lost()
         if not self.ended.done():
             kept = self.road._cause if isinstance(self.road._cause, (SystemException, LemonrudderError)) else None
-            self.ended.set_result(error or kept or ConnectionResetError("the server closed the connection"))
+            self.ended.set_result(self.road._mute or error or kept or ConnectionResetError("the server closed the connection"))

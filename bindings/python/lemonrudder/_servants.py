@@ -5,15 +5,17 @@ from dataclasses import dataclass
 from typing import Any, Callable, Dict, Mapping, NamedTuple, Optional, Sequence, Tuple, Union
 
 from ._catalogue import Catalogue, Fronts, Signature
-from ._cdr import BIG, pack, parsed
+from ._cdr import BIG, pack, parsed, results_of
 from ._engine import Asked
-from ._library import LemonrudderError, Octets
+from ._library import LemonrudderError, Octets, octets_of
 from ._messages import Body
-from ._outcomes import Outcome, Refuse
-from ._table import Error, ReplyStatus
+from ._outcomes import Outcome, Refuse, SystemException, UserException, known_name, system_outcome
+from ._table import Error, Order, ReplyStatus
 
 # every object is one
 _OBJECT = "IDL:omg.org/CORBA/Object:1.0"
+# how many octets the body of a reply has at most
+_LONGEST = 1048576
 
 Operation = Union[Tuple[str, str], Tuple[str, str, Callable[..., Any]], Callable[[Body], Any]]
 """The formats of arguments and results, and the function where it is no method of the servant; or a function of a
@@ -67,6 +69,31 @@ class Judged:
     asked: Asked
     performer: Optional[Performer]
     answer: Union[Outcome, Refuse, None] = None
+
+    def outcome(self, ended: Any) -> Outcome:
+        """What a servant returns or raises as an outcome, by the types under which it was asked, which are perhaps on
+        offer no more. Raises ValueError, TypeError, LemonrudderError (OUTCOME)."""
+        signature = None if self.performer is None else self.performer.signature
+        if isinstance(ended, Outcome):
+            made = ended
+        elif isinstance(ended, SystemException):
+            return system_outcome(known_name(ended.name), ended.minor, ended.completed)
+        elif isinstance(ended, UserException):
+            if signature is None or ended.id not in signature.raises:
+                raise LemonrudderError(Error.OUTCOME, f"the operation does not raise {ended.id}")
+            body = pack("s" + signature.raises[ended.id], ended.id, *ended.values)
+            made = Outcome(ReplyStatus.USER_EXCEPTION, BIG, body)
+        elif signature is not None:
+            body = pack(signature.results, *results_of(signature.results, ended))
+            made = Outcome(ReplyStatus.NO_EXCEPTION, BIG, body)
+        else:
+            reply = ended if isinstance(ended, RawReply) else RawReply(ended)
+            if not ReplyStatus.NO_EXCEPTION <= reply.status <= ReplyStatus.LOCATION_FORWARD:
+                raise ValueError(f"no status of an outcome: {reply.status}")
+            made = Outcome(ReplyStatus(reply.status), Order(reply.order), octets_of(reply.octets))
+        if len(made.body) > _LONGEST:
+            raise ValueError(f"a body of {len(made.body)} octets is too long")
+        return made
 
 
 def _performer(name: str, operation: Operation, raises: Mapping[str, str], servant: Any,

@@ -8,6 +8,7 @@ from typing import Any, Callable, Dict, List, Mapping, Optional, Sequence, Tuple
 
 from ._catalogue import Catalogue
 from ._connection import PEER_ENDED, Connection
+from ._door import Door
 from ._durable import Durable
 from ._engine import Asked, Engine
 from ._library import LIMIT, PARTIALS, LemonrudderError, Text, octets_of
@@ -53,9 +54,12 @@ class Server:
     what is due, or has as many requests parked as may be, nothing more is read.
 
     limit, partials, capacity, share, max_parked, max_parked_of, max_joined, max_due and max_client_id: as of Engine.
-    Where max_parked requests are parked, an async operation is refused by TRANSIENT; the last quarter of the places is
+    max_elements: how many elements of sequences, and structs in structs, the arguments of a request may have in all,
+    but for numbers, booleans and characters, since each takes its time for all connections: one that has more is
+    refused by MARSHAL; None: as many as there are. Where max_parked requests are parked, an async operation is refused by TRANSIENT; the last quarter of the places is
     for connections that have none. While as many outcomes are kept as may be, requests that are new and may be sent
-    again are answered NO_RESOURCES. max_connections: one that comes beyond is dropped. timeout: the seconds that an
+    again are answered NO_RESOURCES. max_connections: who comes beyond takes the place of the one that is idle longest, for a second at least; where
+    all are busy it waits. So it is where there are no descriptors. timeout: the seconds that an
     async operation may take; then it is cancelled, and, unless it says another outcome within a second, answered as
     TIMEOUT, COMPLETED_MAYBE, since it has perhaps acted. idle_timeout: the seconds after which goodbye is said on a
     connection that has been silent. write_timeout: the seconds that a peer may take nothing of what is due. None: as
@@ -75,7 +79,8 @@ class Server:
 
     def __init__(self, limit: int = LIMIT, partials: int = PARTIALS, capacity: int = 65536,
                  share: Optional[int] = None, *, max_parked: int = 1024, max_parked_of: int = 64, max_joined: int = 8,
-                 max_due: int = 65536, max_client_id: int = 256, max_connections: int = 1000,
+                 max_due: int = 65536, max_client_id: int = 256, max_elements: Optional[int] = 65536,
+                 max_connections: int = 1000,
                  timeout: Optional[float] = None, idle_timeout: Optional[float] = 300.0,
                  write_timeout: float = 60.0, store: Optional[Store] = None,
                  purge_every: Optional[float] = 60.0) -> None:
@@ -88,6 +93,7 @@ class Server:
         self._terms = (limit, partials, capacity, share) if store is None else (limit, partials, max_parked + 1, None)
         self._limits = {"max_parked": max_parked, "max_parked_of": max_parked_of, "max_joined": max_joined,
                         "max_due": max_due, "max_client_id": max_client_id}
+        self._max_elements = max_elements
         # what is on offer; before `listen` a catalogue says whether it can be
         self._offer, self._trial = Offer(), Catalogue()
         self._connections: Dict[int, Connection] = {}
@@ -107,7 +113,7 @@ class Server:
         self._closing: Any = None
         self._sweeping: Optional[asyncio.TimerHandle] = None
         self._emptied: Any = None
-        self._listeners: List[Any] = []
+        self._door = Door(self)
         self._addresses: List[Tuple[str, int]] = []
 
     # ---- objects ----
@@ -131,8 +137,9 @@ class Server:
         self._change(partial(self._offer.add, key=octets_of(key), servant=servant))
 
     def remove(self, key: Text) -> None:
-        """Takes an object away. Its operations that are under way go on. Raises LemonrudderError (OBJECT, EMPTY, PARKS
-        as of add)."""
+        """Takes an object away: who asks for it then hears OBJECT_NOT_EXIST. Its operations that are under way go on,
+        and end by what becomes of them, which their repeats get. Raises LemonrudderError (OBJECT, EMPTY, PARKS as of
+        add)."""
         self._change(partial(self._offer.remove, key=octets_of(key)))
 
     def add_family(self, prefix: Text, repository_ids: Union[str, Sequence[str]], operations: Mapping[str, Operation],
@@ -144,7 +151,7 @@ class Server:
         self._put(self._offer.with_family(octets_of(prefix), servant))
 
     def remove_family(self, prefix: Text) -> None:
-        """Takes a family away. Raises LemonrudderError (OBJECT, EMPTY, PARKS as of add)."""
+        """Takes a family away, as remove does an object. Raises LemonrudderError (OBJECT, EMPTY, PARKS as of add)."""
         self._put(self._offer.without_family(octets_of(prefix)))
 
     def add_default(self, function: Callable[[Body], Any], *, timeout: Optional[float] = None) -> None:
@@ -180,15 +187,14 @@ class Server:
         if self._engine is None:
             with self._offer.catalogue() as catalogue:
                 # (what a store has is answered first, also of what is no more)
-                self._engine = Engine(catalogue, *self._terms, **self._limits, ask_first=self._durable is not None)
+                self._engine = Engine(catalogue, *self._terms, **self._limits, ask_first=self._durable is not None,
+                                      max_elements=self._max_elements)
             self._trial.close()
             self._ended, self._emptied = loop.create_future(), loop.create_future()
             self._sweep()
             if self._durable is not None:
                 self._durable.begin()
-        listener = await loop.create_server(lambda: Connection(self), host, port, **options)
-        self._listeners.append(listener)
-        self._addresses.append((host, listener.sockets[0].getsockname()[1]))
+        self._addresses.append((host, await self._door.open(host, port, options)))
         return self._addresses[-1][1]
 
     @property
@@ -264,7 +270,7 @@ class Server:
 
     def _judged(self, asked: Asked) -> Judged:
         """What becomes of the request that waits. Raises KeyError: there is nothing of its name."""
-        if self._durable is None:
+        if self._durable is None and asked.refusal is None:
             return Judged(asked, self._offer.performer(asked.key, asked.operation))
         return self._offer.judged(asked)
 
@@ -272,12 +278,10 @@ class Server:
 
     def _enter(self, connection: Connection) -> None:
         """Takes a new connection, or drops it."""
+        self._door.entered(connection)
         if self._closing is not None:
             # (it was accepted before the listener closed)
             self._turn_away(connection, "the server closes", logging.DEBUG)
-            return
-        if len(self._connections) >= self.max_connections:
-            self._turn_away(connection, f"there are {len(self._connections)}")
             return
         self._last += 1
         try:
@@ -297,6 +301,7 @@ class Server:
     def _leave(self, connection: Connection) -> None:
         """A connection is gone."""
         self._waiting.pop(connection, None)
+        self._door.free()
         if self._connections.pop(connection.number, None) is None or self.is_closed:
             return
         why = self._engine.why(connection.number)
@@ -377,8 +382,7 @@ class Server:
     async def _close(self, timeout: Optional[float]) -> None:
         """Ends as close says."""
         if self._engine is not None and not self.is_closed:
-            for listener in self._listeners:
-                listener.close()
+            self._door.close()
             for connection in list(self._connections.values()):
                 connection.farewell("the server closes")
             self._tell()
@@ -399,8 +403,7 @@ class Server:
         self.is_closed = True
         if self._sweeping is not None:
             self._sweeping.cancel()
-        for listener in self._listeners:
-            listener.close()
+        self._door.stop()
         for connection in list(self._connections.values()):
             if not connection.transport.is_closing():
                 connection.transport.abort()

@@ -10,14 +10,13 @@ from collections import OrderedDict, deque
 from functools import partial
 from typing import TYPE_CHECKING, Any, Awaitable, Callable, Deque, Dict, Optional, Sequence, Tuple
 
-from ._cdr import results_of
 from ._connection import Connection
 from ._current import CURRENT, Current
 from ._engine import Asked
 from ._library import LemonrudderError, Octets
 from ._messages import listed
 from ._outcomes import GiveUp, Outcome, Refuse, SystemException, UserException, known_name, system_outcome
-from ._servants import Judged, RawReply
+from ._servants import Judged
 from ._table import Completed, Error
 
 if TYPE_CHECKING:
@@ -30,8 +29,9 @@ GRACE = 1.0
 class _Work:
     """A parked request, and the task that performs it."""
 
-    def __init__(self, asked: Asked, connection: Connection, task: asyncio.Future[Any], coroutine: Any) -> None:
-        self.asked, self.connection, self.task, self.coroutine = asked, connection, task, coroutine
+    def __init__(self, judged: Judged, connection: Connection, task: asyncio.Future[Any], coroutine: Any) -> None:
+        self.judged, self.asked, self.connection = judged, judged.asked, connection
+        self.task, self.coroutine = task, coroutine
         self.timer: Optional[asyncio.TimerHandle] = None
         # by which exception it is cut off, and whether it had begun then; whether it is answered before it ends
         self.cut = ""
@@ -64,7 +64,7 @@ class Works:
                 return True
             judged = self._server._judged(asked)
             asked, performer = judged.asked, judged.performer
-            current = self._current(asked, connection)
+            current = self._current(judged, connection)
         except (LemonrudderError, KeyError) as error:
             # (memory is short, as when a part is read: nothing was done)
             self._server._lines.write(connection, logging.ERROR, "a request is refused on %s", connection, error=error)
@@ -83,28 +83,29 @@ class Works:
             try:
                 returned = performer.function(*arguments)
             except BaseException as raised:
-                self._raise(asked, raised, connection)
+                self._raise(judged, raised, connection)
                 if not isinstance(raised, Exception):
                     raise
             else:
                 if inspect.isawaitable(returned):
                     self._begin(judged, connection, returned)
                 else:
-                    self._return(asked, returned)
+                    self._return(judged, returned)
         finally:
             CURRENT.reset(token)
         self._server._tell()
         return True
 
-    def _current(self, asked: Asked, connection: Connection) -> Current:
+    def _current(self, judged: Judged, connection: Connection) -> Current:
         """What its servant can know of the request that waits."""
+        asked = judged.asked
         ft, ticket, durable = asked.ft, asked.ticket, self._server._durable
         client, number, expiration = (None, None, None) if ft is None else (ft.client, ft.retention_id, ft.expiration)
         contexts = self._server._engine.contexts() if asked.contexts else ()
         return Current(asked.key, asked.operation, client, number, expiration, connection.number, connection.peer,
                        connection.certificate, contexts, asked.request_id, asked.version, asked.wish,
                        lambda: self._wanted(ticket), partial(self._say, ticket),
-                       None if durable is None else partial(durable.put, asked))
+                       None if durable is None else partial(durable.put, judged))
 
     def _is_durable(self, asked: Asked) -> bool:
         """Whether the outcome of a request is kept in the server's store, and not here."""
@@ -113,9 +114,9 @@ class Works:
     def _answer_judged(self, judged: Judged, connection: Connection) -> None:
         """Answers the request that waits and is not performed."""
         if isinstance(judged.answer, Refuse):
-            self._raise(judged.asked, judged.answer, connection)
+            self._raise(judged, judged.answer, connection)
         else:
-            self._return(judged.asked, judged.answer)
+            self._return(judged, judged.answer)
 
     def _waits(self, ticket: int) -> bool:
         """Whether this is the request that waits."""
@@ -162,7 +163,7 @@ class Works:
                 asyncio.ensure_future(returned).cancel()
                 self._answer(asked, "UNKNOWN", partial(self._doubt, asked), "NO_RESOURCES")
             return
-        work = _Work(asked, connection, asyncio.ensure_future(returned), coroutine)
+        work = _Work(judged, connection, asyncio.ensure_future(returned), coroutine)
         self.works[asked.ticket] = work
         connection.works += 1
         timeout = self._server.timeout if performer is None or performer.timeout is None else performer.timeout
@@ -199,6 +200,7 @@ class Works:
         task = work.task
         del self.works[work.asked.ticket]
         work.connection.works -= 1
+        work.connection.heard = self._server._loop.time()
         if work.timer is not None:
             work.timer.cancel()
         raised = None if task.cancelled() else task.exception()
@@ -210,9 +212,9 @@ class Works:
         elif task.cancelled():
             self._cut_off(work)
         elif raised is not None:
-            self._raise(work.asked, raised, work.connection)
+            self._raise(work.judged, raised, work.connection)
         else:
-            self._return(work.asked, task.result())
+            self._return(work.judged, task.result())
         self._server._tell()
         if not self._server.is_closed:
             self._server._wake(work.connection)
@@ -243,9 +245,10 @@ class Works:
             self._cut_off(work)
             self._server._tell()
 
-    def _raise(self, asked: Asked, raised: BaseException, connection: Connection) -> None:
+    def _raise(self, judged: Judged, raised: BaseException, connection: Connection) -> None:
         """Answers by what a function raised."""
-        engine, answer = self._server._engine, partial(self._answer, asked, "UNKNOWN")
+        asked, engine = judged.asked, self._server._engine
+        answer = partial(self._answer, asked, "UNKNOWN")
         write = partial(self._server._lines.write, connection)
         if isinstance(raised, (Refuse, GiveUp)):
             name = raised.name if isinstance(raised, Refuse) else "TRANSIENT"
@@ -255,34 +258,21 @@ class Works:
                 engine.give_up()
             else:
                 answer(engine.refuse, name, raised.minor if isinstance(raised, Refuse) else 0)
-        elif isinstance(raised, UserException) and self._server._durable is not None:
-            answer(partial(self._hand_in, asked), raised)
         elif isinstance(raised, UserException):
-            answer(engine.raise_user, raised.id, *raised.values)
+            answer(partial(self._hand_in, judged), raised)
         elif isinstance(raised, SystemException):
             answer(engine.raise_system, known_name(raised.name), raised.minor, raised.completed)
         else:
             write(logging.ERROR, "%a raised %s", asked.operation, type(raised).__name__, error=raised)
             self._fail(asked, "UNKNOWN")
 
-    def _return(self, asked: Asked, returned: Any) -> None:
+    def _return(self, judged: Judged, returned: Any) -> None:
         """Answers by what a function returned."""
-        self._answer(asked, "INTERNAL", partial(self._hand_in, asked), returned)
+        self._answer(judged.asked, "INTERNAL", partial(self._hand_in, judged), returned)
 
-    def _hand_in(self, asked: Asked, returned: Any, ticket: int) -> None:
-        """Hands in what a function returned."""
-        durable = self._server._durable
-        if isinstance(returned, Outcome):
-            self._answer_by(asked, returned, ticket)
-        elif durable is not None:
-            self._answer_by(asked, durable.outcome(asked, returned), ticket)
-        elif asked.arguments is not None:
-            results = self._server._offer.performer(asked.key, asked.operation).signature
-            self._server._engine.answer(*results_of(results.results if results else "", returned), ticket=ticket)
-        elif isinstance(returned, RawReply):
-            self._server._engine.answer_raw(*returned, ticket=ticket)
-        else:
-            self._server._engine.answer_raw(returned, ticket=ticket)
+    def _hand_in(self, judged: Judged, ended: Any, ticket: int) -> None:
+        """Hands in what a function returned or raised. (The engine has only the types that are on offer now.)"""
+        self._answer_by(judged.asked, judged.outcome(ended), ticket)
 
     def _answer(self, asked: Asked, name: str, answer: Callable[..., None], *arguments: Any) -> None:
         """Answers a request; by a system exception of that name where that is no outcome of its operation."""

@@ -10,25 +10,40 @@ import abc
 import dataclasses
 import enum
 import inspect
+import keyword
 import logging
 import operator
+import re
 import struct
-from typing import Any, Callable, ClassVar, Dict, Iterator, List, Mapping, Optional, Sequence, Tuple, Type, TypeVar
+import threading
+from typing import (TYPE_CHECKING, Any, Callable, ClassVar, Dict, Iterable, Iterator, List, Mapping, Optional, Sequence,
+                    Tuple, Type, TypeVar)
 from typing import Union as Either
 
 from . import _outcomes
 from ._catalogue import Catalogue, Signature
 from ._cdr import BIG, Reader, Writer
 from ._client import Client
-from ._library import LemonrudderError, Text
-from ._messages import Body
+from ._library import LemonrudderError, Text, serves
+from ._messages import Body as Body
 from ._outcomes import Outcome, Refuse, SystemException
-from ._references import REFERENCE, Ior
-from ._servants import RawReply
+from ._references import REFERENCE
+from ._references import Ior as Ior
+from ._servants import RawReply as RawReply
 from ._server import Server
-from ._table import Completed, Error, ReplyStatus, Wish
+from ._table import VERSION, Completed, Error, ReplyStatus, Wish
 
 LOG = logging.getLogger("lemonrudder")
+# how deep sequences may stand in sequences of what a raw operation has, and how deep those stand that are at work
+DEPTH = 64
+_NOW = threading.local()
+
+
+def made_for(*version: int) -> None:
+    """Whether this package serves what was made for a version of it. Raises ImportError."""
+    if not serves(VERSION, version):
+        found, wanted = (".".join(map(str, each)) for each in (VERSION, version))
+        raise ImportError(f"this is lemonrudder {found}, and none for {wanted}: make the module anew by omniidl")
 
 
 def _within(name: str, function: Callable[[Any], Any], value: Any) -> Any:
@@ -42,12 +57,26 @@ def _within(name: str, function: Callable[[Any], Any], value: Any) -> Any:
         raise kind(f"{name}: {error}") from None
 
 
+def _name(made: type) -> str:
+    """The name of IDL of a class that is made of it, as Python has it: its first line says it in IDL's spelling."""
+    said = made.__dict__.get("__doc__") or ""
+    if re.fullmatch(r"\w+(::\w+)*", said) is None:
+        return made.__qualname__
+    return ".".join(f"_{one}" if keyword.iskeyword(one) else one for one in said.split("::"))
+
+
 # ---- types ----
 
 class IdlType:
-    """A type. format: that of the library, or None where none spells it."""
+    """A type. format: that of the library, or None where none spells it. is_basic: whether a value of the format is one
+    of the type, so that many need no look at each."""
 
     format: Optional[str] = None
+    is_basic = False
+
+    def are_plain(self, values: Any) -> bool:
+        """Whether these are values of a basic type, and each as one of the format. False: see to each."""
+        return False
 
     def plain(self, value: Any) -> Any:
         """A value as one of the format. Raises ValueError, TypeError: it is none of this type."""
@@ -75,6 +104,8 @@ class IdlType:
 
 
 class _Number(IdlType):
+    is_basic = True
+
     def __init__(self, name: str, format: str, least: int, bits: int) -> None:
         self.name, self.format = name, format
         self.least, self.most = least, least + (1 << bits) - 1
@@ -87,12 +118,18 @@ class _Number(IdlType):
             raise ValueError(f"{number} is no {self.name}")
         return number
 
+    def are_plain(self, values: Any) -> bool:
+        return set(map(type, values)) == {int} and self.least <= min(values) and max(values) <= self.most
+
     def values(self) -> Iterator[Any]:
         return iter(range(self.most + 1))
 
 
 class _Boolean(IdlType):
-    format = "?"
+    format, is_basic = "?", True
+
+    def are_plain(self, values: Any) -> bool:
+        return set(map(type, values)) == {bool}
 
     def plain(self, value: Any) -> bool:
         if not isinstance(value, bool):
@@ -104,7 +141,10 @@ class _Boolean(IdlType):
 
 
 class _Char(IdlType):
-    format = "c"
+    format, is_basic = "c", True
+
+    def are_plain(self, values: Any) -> bool:
+        return isinstance(values, str) and max(values, default="") <= "\xff"
 
     def plain(self, value: Any) -> str:
         if not isinstance(value, str):
@@ -118,8 +158,14 @@ class _Char(IdlType):
 
 
 class _Real(IdlType):
+    is_basic = True
+
     def __init__(self, name: str, format: str) -> None:
         self.name, self.format, self._code = name, format, ">" + format
+
+    def are_plain(self, values: Any) -> bool:
+        # (a float of Python may be none of 32 bits)
+        return self.format == "d" and set(map(type, values)) == {float}
 
     def plain(self, value: Any) -> float:
         if isinstance(value, bool) or not isinstance(value, (int, float)):
@@ -195,14 +241,14 @@ class sequence(IdlType):
         if self.format is not None:
             return super().read(reader)
         count = _bounded_count(reader.read("L")[0], self.bound)
-        return [self.member.read(reader) for _ in range(count)]
+        return _deeper(lambda: _read_each(self.member, reader, count))
 
     def write(self, writer: Writer, value: Any) -> None:
         if self.format is not None:
             super().write(writer, value)
             return
         writer.write("L", len(self._listed(value)))
-        _write_each(self.member, writer, value)
+        _deeper(_write_each, self.member, writer, value)
 
 
 class array(IdlType):
@@ -228,13 +274,25 @@ class array(IdlType):
     def read(self, reader: Reader) -> Any:
         if self.format is not None:
             return super().read(reader)
-        return _made(self.member, [self.member.read(reader) for _ in range(self.size)])
+        return _read_each(self.member, reader, self.size)
 
     def write(self, writer: Writer, value: Any) -> None:
         if self.format is not None:
             super().write(writer, value)
             return
         _write_each(self.member, writer, self._listed(value))
+
+
+def _deeper(function: Callable[..., Any], *values: Any) -> Any:
+    """What a function answers of a sequence in others. Raises ValueError: it stands too deep."""
+    depth: int = getattr(_NOW, "depth", 0)
+    if depth == DEPTH:
+        raise ValueError(f"sequences in sequences, more than {DEPTH} deep")
+    _NOW.depth = depth + 1
+    try:
+        return function(*values)
+    finally:
+        _NOW.depth = depth
 
 
 def _holds(member: IdlType, value: Any, name: str) -> None:
@@ -245,11 +303,15 @@ def _holds(member: IdlType, value: Any, name: str) -> None:
         raise TypeError(f"{value!r} is no {name}: it is to be {words}")
 
 
-def _plains(member: IdlType, values: Any) -> List[Any]:
+def _plains(member: IdlType, values: Any) -> Any:
+    if member.are_plain(values):
+        return values
     return [_within(f"[{index}]", member.plain, value) for index, value in enumerate(values)]
 
 
 def _joined(member: IdlType, plains: Any) -> Any:
+    if member.is_basic:
+        return _made(member, plains if isinstance(plains, list) else list(plains))
     return _made(member, [member.typed(plain) for plain in plains])
 
 
@@ -264,9 +326,32 @@ def _bounded_count(count: int, bound: int) -> int:
     return count
 
 
+def _read_each(member: IdlType, reader: Reader, count: int) -> Any:
+    """So many members."""
+    if member.format is not None:
+        return _joined(member, reader.read_each(member.format, count))
+    reader.count(count)
+    return _made(member, [member.read(reader) for _ in range(count)])
+
+
 def _write_each(member: IdlType, writer: Writer, values: Any) -> None:
+    if member.format is not None:
+        writer.write_each(member.format, _plains(member, values))
+        return
     for index, value in enumerate(values):
         _within(f"[{index}]", lambda one: member.write(writer, one), value)
+
+
+class recursive(IdlType):
+    """A struct or union that is named before it is whole, as one that holds itself: `of` is its type."""
+
+    of: IdlType
+
+    def read(self, reader: Reader) -> Any:
+        return self.of.read(reader)
+
+    def write(self, writer: Writer, value: Any) -> None:
+        self.of.write(writer, value)
 
 
 class reference(IdlType):
@@ -287,13 +372,39 @@ class reference(IdlType):
 class Enum(enum.IntEnum):
     """An enum of IDL: its numbers are those of CDR."""
 
+    if TYPE_CHECKING:
+        # (an enumerator may be named like what each int has, and hides that)
+        @property
+        def real(self) -> Any: ...
+        @property
+        def imag(self) -> Any: ...
+        @property
+        def numerator(self) -> Any: ...
+        @property
+        def denominator(self) -> Any: ...
+        @property
+        def conjugate(self) -> Any: ...
+        @property
+        def bit_length(self) -> Any: ...
+        @property
+        def bit_count(self) -> Any: ...
+        @property
+        def as_integer_ratio(self) -> Any: ...
+        @property
+        def to_bytes(self) -> Any: ...
+        @property
+        def from_bytes(self) -> Any: ...
+
     @property
     def _v(self) -> int:
         return int(self)
 
     @property
     def _n(self) -> str:
-        return self.name
+        return self._name_
+
+    def __repr__(self) -> str:
+        return f"{_name(type(self))}.{self._name_}"
 
 
 class enumeration(IdlType):
@@ -307,7 +418,7 @@ class enumeration(IdlType):
 
     def plain(self, value: Any) -> int:
         if not isinstance(value, self.made):
-            raise TypeError(f"{value!r} is no {self.made.__name__}")
+            raise TypeError(f"{value!r} is no {_name(self.made)}")
         return int(value)
 
     def typed(self, plain: int) -> Enum:
@@ -316,7 +427,7 @@ class enumeration(IdlType):
     def read(self, reader: Reader) -> Enum:
         number: int = reader.read("L")[0]
         if number >= len(self.items):
-            raise ValueError(f"{number} is no {self.made.__name__}")
+            raise ValueError(f"{number} is no {_name(self.made)}")
         return self.items[number]
 
     def write(self, writer: Writer, value: Any) -> None:
@@ -326,8 +437,21 @@ class enumeration(IdlType):
         return iter(self.items)
 
 
+def _spelled(value: Any, names: Iterable[str]) -> str:
+    """A value by its members."""
+    return f"{_name(type(value))}({', '.join(f'{name}={getattr(value, name)!r}' for name in names)})"
+
+
 class Struct:
     """A struct of IDL. It goes by its members where tuples do, as in what current().store takes."""
+
+    def __init_subclass__(cls) -> None:
+        # (a dataclass keeps the repr that it finds)
+        if "__repr__" not in cls.__dict__:
+            setattr(cls, "__repr__", Struct.__repr__)
+
+    def __repr__(self) -> str:
+        return _spelled(self, (one.name for one in dataclasses.fields(self)))
 
     def __iter__(self) -> Iterator[Any]:
         return (getattr(self, one.name) for one in dataclasses.fields(self))
@@ -338,13 +462,14 @@ class structure(IdlType):
 
     def __init__(self, made: type, *members: Tuple[str, IdlType]) -> None:
         self.made, self.members = made, members
+        self._structs = sum(isinstance(type, (structure, union)) for _, type in members)
         formats = [type.format for _, type in members]
         if len(members) <= 255 and all(one is not None for one in formats):
             self.format = f"({''.join(map(str, formats))})"
 
     def _of(self, value: Any) -> Any:
         if not isinstance(value, self.made):
-            raise TypeError(f"{value!r} is no {self.made.__name__}")
+            raise TypeError(f"{value!r} is no {_name(self.made)}")
         return value
 
     def plain(self, value: Any) -> Tuple[Any, ...]:
@@ -355,6 +480,7 @@ class structure(IdlType):
         return self.made(*(type.typed(one) for (_, type), one in zip(self.members, plain)))
 
     def read(self, reader: Reader) -> Any:
+        reader.count(self._structs)
         return self.made(*(type.read(reader) for _, type in self.members))
 
     def write(self, writer: Writer, value: Any) -> None:
@@ -367,7 +493,8 @@ class Union:
     """A union of IDL. _d: the discriminator. _v: the value of the member that it selects, which has that name too;
     None where it selects none.
 
-    Made by a discriminator and a value, or by a member's name: U(3, "x"), U(text="x"). Raises TypeError, ValueError.
+    Made by a discriminator and a value, or by a member's name, with a discriminator that selects it or the first one
+    that does: U(3, "x"), U(3, text="x"), U(text="x"). Raises TypeError, ValueError, AttributeError.
     """
 
     _type: ClassVar[union]
@@ -377,9 +504,12 @@ class Union:
     def __init__(self, *both: Any, **by_name: Any) -> None:
         if len(both) == 2 and not by_name:
             self._d, self._v = both
-        elif not both and len(by_name) == 1:
+        elif len(both) < 2 and len(by_name) == 1:
             (name, value), = by_name.items()
             setattr(self, name, value)
+            if both and self._type.name(both[0]) != name:
+                raise ValueError(f"{name} is not the member of {both[0]!r}")
+            self._d = both[0] if both else self._d
         else:
             raise TypeError("a discriminator and a value, or a member by its name")
 
@@ -406,7 +536,11 @@ class Union:
         raise TypeError("a union is not to be hashed")
 
     def __repr__(self) -> str:
-        return f"{type(self).__name__}({self._d!r}, {self._v!r})"
+        name = self._type.name(self._d)
+        if name is None:
+            return f"{_name(type(self))}({self._d!r}, {self._v!r})"
+        label = "" if self._type.first[name] == self._d else f"{self._d!r}, "
+        return f"{_name(type(self))}({label}{name}={self._v!r})"
 
 
 class union(IdlType):
@@ -441,11 +575,12 @@ class union(IdlType):
     def read(self, reader: Reader) -> Any:
         label = self.switch.read(reader)
         found = self.member(label)
+        reader.count(found is not None and isinstance(found[1], (structure, union)))
         return self.made(label, None if found is None else found[1].read(reader))
 
     def write(self, writer: Writer, value: Any) -> None:
         if not isinstance(value, self.made):
-            raise TypeError(f"{value!r} is no {self.made.__name__}")
+            raise TypeError(f"{value!r} is no {_name(self.made)}")
         _within("_d", lambda one: self.switch.write(writer, one), value._d)
         found = self.member(value._d)
         if found is not None:
@@ -463,9 +598,10 @@ class UserException(Exception):
     _id: ClassVar[str]
     _type: ClassVar[structure]
 
-    def __str__(self) -> str:
-        members = (f"{name}={getattr(self, name)!r}" for name, _ in self._type.members)
-        return f"{type(self).__name__}({', '.join(members)})"
+    def __repr__(self) -> str:
+        return _spelled(self, (name for name, _ in self._type.members))
+
+    __str__ = __repr__
 
     def __eq__(self, other: object) -> bool:
         return type(other) is type(self) and all(getattr(self, name) == getattr(other, name)
@@ -571,6 +707,27 @@ class Operation:
             raise
         except ValueError as error:
             raise LemonrudderError(Error.VALUE, f"the reply of {self.name}: {error}") from None
+
+
+class OfOctets(Operation):
+    """An operation with types that can't be made: its arguments and results are the octets of a Body."""
+
+    def __init__(self, name: str, method: str, is_oneway: bool = False) -> None:
+        super().__init__(name, method, is_oneway=is_oneway)
+        self.is_raw = True
+
+    def values(self, plain: Sequence[Any]) -> List[Any]:
+        return [plain[0]]
+
+    def reply(self, returned: Any) -> Any:
+        if returned is None and self.is_oneway:
+            return RawReply(b"")
+        if not isinstance(returned, (Outcome, RawReply)):
+            raise TypeError(f"{returned!r} is no RawReply")
+        return returned
+
+    def returned(self, body: Body) -> Any:
+        return body
 
 
 def _format(types: _Named) -> str:
@@ -721,6 +878,16 @@ class Stub:
 
     async def __aexit__(self, *error: Any) -> None:
         await self._close()
+
+    async def _call_octets(self, operation: Operation, body: Either[Body, bytes]) -> Any:
+        """Calls an operation by the octets of its arguments, and returns those of its results."""
+        given = body if isinstance(body, Body) else Body(body)
+        if given.at % 8:
+            raise ValueError(f"{operation.name}: a body that begins at {given.at}, and is to at a multiple of 8")
+        wish = Wish.NONE if operation.is_oneway else Wish.FULL
+        came = await self._client.call_raw(self._key, operation.name, given.octets, order=given.order, wish=wish,
+                                           timeout=self._timeout, expiration=self._expiration)
+        return None if operation.is_oneway else came
 
     async def _call(self, operation: Operation, *values: Any) -> Any:
         """Calls an operation by its arguments, and returns its results as a method does."""

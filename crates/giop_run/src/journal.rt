@@ -13,6 +13,16 @@ pub(crate) struct Journal {
     pub(crate) lines: Vec<u8>,
 }
 
+/// Appends what is asked for: its connection, its object key and its operation.
+fn put_call(alloc: Global, asked: &Asked<'_>, line: &mut String) -> Result<(), AllocError> {
+    let connection = asked.connection;
+    write!(line, "{connection} ")?;
+    line.push_str(&text_of(alloc, asked.object_key)?)?;
+    line.push(' ')?;
+    line.push_str(&text_of(alloc, asked.operation)?)?;
+    line.push('\n')
+}
+
 impl Journal {
     /// Without lines.
     pub(crate) fn new(alloc: Global, has_asks: bool) -> Journal {
@@ -28,19 +38,16 @@ impl Journal {
         if !self.has_asks {
             return Ok(());
         }
-        let connection = asked.connection;
-        let key = text_of(self.alloc, asked.object_key)?;
-        let operation = text_of(self.alloc, asked.operation)?;
-        let line = format!(in self.alloc; "ask {connection} {key} {operation}\n")?;
+        let mut line = String::from_str(self.alloc, "ask ")?;
+        put_call(self.alloc, asked, &mut line)?;
         self.lines.extend_from_slice(line.as_bytes())
     }
 
     /// A request that is to be parked.
     pub(crate) fn put_parked(&mut self, asked: &Asked<'_>) -> Result<(), AllocError> {
-        let (number, connection) = (asked.number, asked.connection);
-        let key = text_of(self.alloc, asked.object_key)?;
-        let operation = text_of(self.alloc, asked.operation)?;
-        let line = format!(in self.alloc; "parked {number} {connection} {key} {operation}\n")?;
+        let number = asked.number;
+        let mut line = format!(in self.alloc; "parked {number} ")?;
+        put_call(self.alloc, asked, &mut line)?;
         self.lines.extend_from_slice(line.as_bytes())
     }
 
