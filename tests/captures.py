@@ -49,10 +49,9 @@ def script():
 
 
 def clock(time):
-    """A time in nanoseconds as jiff prints it."""
+    """A time in nanoseconds as an object of JSON has it: of one length, so that texts sort as times do."""
     seconds, rest = divmod(time, 1_000_000_000)
-    digits = f".{rest:09d}".rstrip("0") if rest else ""
-    return f"{datetime.datetime.fromtimestamp(seconds, datetime.timezone.utc):%Y-%m-%dT%H:%M:%S}{digits}Z"
+    return f"{datetime.datetime.fromtimestamp(seconds, datetime.timezone.utc):%Y-%m-%dT%H:%M:%S}.{rest:09d}Z"
 
 
 class Packets(trace.Session):

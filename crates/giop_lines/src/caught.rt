@@ -7,7 +7,7 @@ use crate::printing::Endpoints;
 use giop_tap::Sender;
 
 /// The packet that octets came in.
-#[derive(Clone, Copy, Debug, PartialEq, Eq)]
+#[derive(Clone, Copy)]
 pub struct Stamp {
     /// Its number in the capture.
     pub frame: u64,

@@ -7,8 +7,6 @@ use std::alloc::{AllocError, Global};
 /// Where an answer leads on to.
 #[derive(Drop)]
 pub(crate) enum Forward {
-    /// It leads nowhere.
-    Nowhere,
     /// To this reference.
     To(Ior),
     /// Its body is no reference.
@@ -16,7 +14,7 @@ pub(crate) enum Forward {
 }
 
 /// The body that has a reference, where the status says so (GIOP 9.4.3, GIOP 9.4.6).
-fn body_of<'m>(content: &Content<'m>) -> Option<Body<'m>> {
+pub(crate) fn forward_in<'m>(content: &Content<'m>) -> Option<Body<'m>> {
     match content {
         Content::Reply(reply) => match ReplyStatus::from_number(reply.status)? {
             ReplyStatus::LocationForward | ReplyStatus::LocationForwardPerm => Some(reply.body),
@@ -30,11 +28,8 @@ fn body_of<'m>(content: &Content<'m>) -> Option<Body<'m>> {
     }
 }
 
-/// Where an answer leads on to.
-pub(crate) fn forward_of(alloc: Global, content: &Content) -> Result<Forward, AllocError> {
-    let Some(body) = body_of(content) else {
-        return Ok(Forward::Nowhere);
-    };
+/// Where such a body leads on to.
+pub(crate) fn forward_of(alloc: Global, body: &Body) -> Result<Forward, AllocError> {
     if body.at >= 0x1_0000_0000 {
         return Ok(Forward::Bad);
     }

@@ -1,130 +1,91 @@
 //! The references that answers lead on to, as objects of JSON.
 
+use crate::fields::Value;
 use crate::forwards::{Forward, forward_of};
+use crate::json::{put_letter, put_meaning};
 use crate::objects::Objects;
-use giop_core::Content;
-use giop_text::{component_meaning, component_name, text_of};
-use ior_core::{Component, Ior, IorError, Profile, TAG_INTERNET_IOP, read_iiop};
-use serde::Serialize;
-use std::alloc::{AllocError, Global};
+use crate::page::Page;
+use giop_core::Body;
+use giop_text::{component_meaning, component_name};
+use ior_core::{Component, IiopProfile, Ior, IorError, Profile, TAG_INTERNET_IOP, read_iiop};
 
-/// A component of a profile.
-#[derive(Drop, Serialize)]
-struct ComponentObject {
-    tag: u32,
-    name: Option<&'static str>,
-    octets: String,
-    #[serde(skip_serializing_if = "Option::is_none")]
-    meaning: Option<String>,
+/// Appends a component.
+fn put_component(component: &Component, page: &mut Page) {
+    page.apart();
+    page.put("{");
+    page.fields(&[
+        ("tag", Value::Number(u64::from(component.tag))),
+        ("name", Value::word(component_name(component.tag))),
+        ("octets", Value::Digits(&component.octets)),
+    ]);
+    let meaning = component_meaning(page.alloc, component.tag, &component.octets);
+    put_meaning(meaning, page);
+    page.put("}");
 }
 
-/// A profile of a reference. Of one of IIOP that is valid all is known but its octets.
-#[derive(Drop, Serialize)]
-struct ProfileObject {
-    tag: u32,
-    octets: Option<String>,
-    minor: Option<u8>,
-    host: Option<String>,
-    port: Option<u16>,
-    key: Option<String>,
-    object: Option<String>,
-    components: Vec<ComponentObject>,
+/// Appends a profile of which no more than its octets is known.
+fn put_octets(profile: &Profile, page: &mut Page) {
+    page.fields(&[
+        ("tag", Value::Number(u64::from(profile.tag))),
+        ("octets", Value::Digits(&profile.octets)),
+        ("minor", Value::Null),
+        ("host", Value::Null),
+        ("port", Value::Null),
+        ("key", Value::Null),
+        ("object", Value::Null),
+    ]);
+    page.put(",\"components\":[]");
 }
 
-/// The reference that an answer leads on to.
-#[derive(Drop, Serialize)]
-pub(crate) struct ForwardObject {
-    valid: bool,
-    type_id: Option<String>,
-    profiles: Vec<ProfileObject>,
-}
-
-/// The objects of components.
-fn component_objects(
-    alloc: Global,
-    components: &[Component],
-) -> Result<Vec<ComponentObject>, AllocError> {
-    let mut objects = Vec::new(alloc);
-    for component in components {
-        objects.push(ComponentObject {
-            tag: component.tag,
-            name: component_name(component.tag),
-            octets: digits::encode(alloc, &component.octets)?,
-            meaning: component_meaning(alloc, component.tag, &component.octets)?,
-        })?;
+/// Appends a profile of IIOP, of which all is known but its octets.
+fn put_iiop(iiop: &IiopProfile, objects: &mut Objects, page: &mut Page) {
+    page.fields(&[
+        ("tag", Value::Number(u64::from(TAG_INTERNET_IOP))),
+        ("octets", Value::Null),
+        ("minor", Value::Number(u64::from(iiop.minor))),
+        ("host", Value::Octets(&iiop.host)),
+        ("port", Value::Number(u64::from(iiop.port))),
+        ("key", Value::Digits(&iiop.object_key)),
+    ]);
+    put_letter(true, &iiop.object_key, objects, page);
+    page.put(",\"components\":[");
+    for component in &iiop.components {
+        put_component(component, page);
     }
-    Ok(objects)
+    page.put("]");
 }
 
-/// The object of a profile of which no more than its octets is known.
-fn bare_profile(alloc: Global, profile: &Profile) -> Result<ProfileObject, AllocError> {
-    Ok(ProfileObject {
-        tag: profile.tag,
-        octets: Some(digits::encode(alloc, &profile.octets)?),
-        minor: None,
-        host: None,
-        port: None,
-        key: None,
-        object: None,
-        components: Vec::new(alloc),
-    })
-}
-
-/// The object of a profile.
-fn profile_object(
-    alloc: Global,
-    profile: &Profile,
-    objects: &mut Objects,
-) -> Result<ProfileObject, AllocError> {
+/// Appends what is known of a profile.
+fn put_known(profile: &Profile, objects: &mut Objects, page: &mut Page) {
     if profile.tag != TAG_INTERNET_IOP {
-        return bare_profile(alloc, profile);
+        return put_octets(profile, page);
     }
-    match read_iiop(alloc, &profile.octets) {
-        Ok(iiop) => Ok(ProfileObject {
-            tag: profile.tag,
-            octets: None,
-            minor: Some(iiop.minor),
-            host: Some(text_of(alloc, &iiop.host)?),
-            port: Some(iiop.port),
-            key: Some(digits::encode(alloc, &iiop.object_key)?),
-            object: objects.letter(&iiop.object_key)?,
-            components: component_objects(alloc, &iiop.components)?,
-        }),
-        Err(IorError::Memory) => Err(AllocError),
-        Err(_) => bare_profile(alloc, profile),
+    match read_iiop(page.alloc, &profile.octets) {
+        Ok(iiop) => put_iiop(&iiop, objects, page),
+        Err(IorError::Memory) => page.is_whole = false,
+        Err(_) => put_octets(profile, page),
     }
 }
 
-/// The object of the reference that an answer leads on to.
-fn reference_object(
-    alloc: Global,
-    ior: &Ior,
-    objects: &mut Objects,
-) -> Result<ForwardObject, AllocError> {
-    let mut profiles = Vec::new(alloc);
+/// Appends a reference.
+fn put_reference(ior: &Ior, objects: &mut Objects, page: &mut Page) {
+    page.put("{\"valid\":true");
+    page.field("type_id", &Value::Octets(&ior.type_id));
+    page.put(",\"profiles\":[");
     for profile in &ior.profiles {
-        profiles.push(profile_object(alloc, profile, objects)?)?;
+        page.apart();
+        page.put("{");
+        put_known(profile, objects, page);
+        page.put("}");
     }
-    Ok(ForwardObject {
-        valid: true,
-        type_id: Some(text_of(alloc, &ior.type_id)?),
-        profiles,
-    })
+    page.put("]}");
 }
 
-/// The object of where an answer leads on to, if it does.
-pub(crate) fn forward_object(
-    alloc: Global,
-    content: &Content,
-    objects: &mut Objects,
-) -> Result<Option<ForwardObject>, AllocError> {
-    match forward_of(alloc, content)? {
-        Forward::Nowhere => Ok(None),
-        Forward::To(ior) => Ok(Some(reference_object(alloc, &ior, objects)?)),
-        Forward::Bad => Ok(Some(ForwardObject {
-            valid: false,
-            type_id: None,
-            profiles: Vec::new(alloc),
-        })),
+/// Appends where an answer of this body leads on to.
+pub(crate) fn put_forward(body: &Body, objects: &mut Objects, page: &mut Page) {
+    match forward_of(page.alloc, body) {
+        Ok(Forward::To(ior)) => put_reference(&ior, objects, page),
+        Ok(Forward::Bad) => page.put("{\"valid\":false,\"type_id\":null,\"profiles\":[]}"),
+        Err(_) => page.is_whole = false,
     }
 }

@@ -6,23 +6,26 @@
 #![tactic(auto)]
 
 mod caught;
-mod caught_forwards;
-mod caught_lines;
 mod colours;
+mod content;
 mod counts;
 mod end_lines;
+mod fields;
+mod forward_lines;
 mod forwards;
 mod json;
 mod json_forwards;
-mod json_parts;
 mod left;
 mod lines;
 mod looks;
 mod moments;
 mod objects;
+mod page;
+mod places;
 mod printing;
 mod reports;
 mod shown;
+mod side_lines;
 mod summaries;
 mod summary;
 

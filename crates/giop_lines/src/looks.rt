@@ -42,9 +42,13 @@ const HTTP: [&[u8]; 10] = [
 /// What these octets of a stream look like, if anything is known. A record of TLS begins with its type, 20 to 23, and a
 /// version from 3.0 to 3.4 (RFC 8446, 5.1).
 pub fn looks_of(octets: &[u8]) -> Option<Looks> {
-    match octets {
-        [20..=23, 3, 0..=4, ..] => Some(Looks::Tls),
-        _ if HTTP.iter().any(|word| octets.starts_with(word)) => Some(Looks::Http),
-        _ => None,
+    if let [20..=23, 3, 0..=4, ..] = octets {
+        return Some(Looks::Tls);
     }
+    for word in HTTP {
+        if octets.starts_with(word) {
+            return Some(Looks::Http);
+        }
+    }
+    None
 }

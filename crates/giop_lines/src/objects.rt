@@ -3,6 +3,7 @@
 use giop_text::{digits_of, text_of};
 use std::alloc::{AllocError, Global};
 use std::collections::BTreeMap;
+use std::mem;
 
 /// So many keys have letters at most, and so many octets they have together; others are printed as they are.
 const MOST_KEYS: usize = 65_536;
@@ -57,16 +58,21 @@ impl Objects {
         self.letters.len() < self.most && self.octets.saturating_add(octets as u64) <= MOST_OCTETS
     }
 
+    /// Appends the line of a key that has the letter of a place.
+    fn put_fresh(&mut self, place: u64, key: &[u8]) -> Result<(), AllocError> {
+        let letter = letter_of(self.alloc, place)?;
+        let digits = digits_of(self.alloc, key)?;
+        let text = text_of(self.alloc, key)?;
+        write!(self.fresh, "object {letter} key {digits} {text}\n")
+    }
+
     /// Takes a key that has no letter, and gives it the next one.
     fn insert(&mut self, key: Vec<u8>) -> Result<String, AllocError> {
         let place = self.letters.len() as u64;
-        let letter = letter_of(self.alloc, place)?;
-        let digits = digits_of(self.alloc, &key)?;
-        let text = text_of(self.alloc, &key)?;
-        write!(self.fresh, "object {letter} key {digits} {text}\n")?;
+        self.put_fresh(place, &key)?;
         self.octets = self.octets.saturating_add(key.len() as u64);
         self.letters.insert(key, place)?;
-        Ok(letter)
+        letter_of(self.alloc, place)
     }
 
     /// The letter of a key. None: too many are remembered.
@@ -81,10 +87,19 @@ impl Objects {
         Ok(Some(self.insert(key)?))
     }
 
-    /// Appends the lines of the keys that have had a letter since it was asked last.
-    pub(crate) fn put_fresh(&mut self, text: &mut String) -> Result<(), AllocError> {
-        text.push_str(&self.fresh)?;
-        self.fresh.clear();
-        Ok(())
+    /// A text behind the lines of the keys that have had a letter since it was asked last.
+    pub(crate) fn behind_fresh(&mut self, text: String) -> Result<String, AllocError> {
+        if self.fresh.is_empty() {
+            return Ok(text);
+        }
+        let mut whole = self.take_fresh();
+        whole.push_str(&text)?;
+        Ok(whole)
+    }
+
+    /// Those lines.
+    fn take_fresh(&mut self) -> String {
+        let none = String::new(self.alloc);
+        mem::replace(&mut self.fresh, none)
     }
 }

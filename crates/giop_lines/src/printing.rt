@@ -6,15 +6,16 @@ use crate::counts::Counts;
 use crate::left::Left;
 use crate::looks::Looks;
 use crate::objects::Objects;
+use crate::page::Page;
 use crate::shown::Shown;
 use crate::summary::Summary;
-use crate::{caught_lines, end_lines, json, lines, reports, summaries};
+use crate::{end_lines, json, lines, reports, side_lines, summaries};
 use giop_link::LinkFault;
 use giop_tap::Sender;
 use std::alloc::{AllocError, Global};
 
 /// In which form lines are printed.
-#[derive(Clone, Copy, Debug, PartialEq, Eq)]
+#[derive(Clone, Copy)]
 pub enum Format {
     /// Lines that a person reads.
     Lines,
@@ -51,8 +52,18 @@ pub struct Spot<'t> {
     pub caught: Option<Caught<'t>>,
 }
 
+impl Spot<'_> {
+    /// The packet of what is said there, where packets are known.
+    pub(crate) fn stamp(&self) -> Option<Stamp> {
+        match &self.caught {
+            Some(caught) => Some(caught.stamp),
+            None => None,
+        }
+    }
+}
+
 /// How a side closed its connection, as TCP has it (RFC 9293, 3.6 and 3.5.3).
-#[derive(Clone, Copy, Debug, PartialEq, Eq)]
+#[derive(Clone, Copy)]
 pub enum Closing {
     /// It sends no more.
     Fin,
@@ -69,9 +80,6 @@ impl Closing {
         }
     }
 }
-
-/// For so many octets of a message's lines memory is taken at once.
-const USUAL: usize = 256;
 
 /// The lines in a form.
 #[derive(Clone, Copy)]
@@ -95,13 +103,33 @@ impl Printer {
         }
     }
 
+    /// A text that was made, in the colour of its tone.
+    fn made(&self, tone: Tone, page: Page) -> Result<String, AllocError> {
+        let text = page.finish()?;
+        self.in_colour(tone, text)
+    }
+
+    /// The same behind the lines of the objects that have their letter from it.
+    fn made_behind(
+        &self,
+        tone: Tone,
+        page: Page,
+        objects: &mut Objects,
+    ) -> Result<String, AllocError> {
+        let text = page.finish()?;
+        match self.format {
+            Format::Lines => self.in_colour(tone, objects.behind_fresh(text)?),
+            Format::Json => Ok(text),
+        }
+    }
+
     /// What stands before all lines of a capture that tells times.
     pub fn head(&self) -> Result<String, AllocError> {
-        let mut text = String::new(self.alloc);
+        let mut page = Page::new(self.alloc);
         if let Format::Json = self.format {
-            reports::put_version(self.alloc, &mut text)?;
+            reports::put_version(&mut page);
         }
-        Ok(text)
+        page.finish()
     }
 
     /// The line of a connection.
@@ -111,14 +139,12 @@ impl Printer {
         ends: &Endpoints,
         stamp: Option<Stamp>,
     ) -> Result<String, AllocError> {
-        let mut text = String::new(self.alloc);
+        let mut page = Page::new(self.alloc);
         match self.format {
-            Format::Lines => lines::put_connection(self.alloc, connection, ends, &mut text)?,
-            Format::Json => reports::put_connection(
-                self.alloc, connection, ends, stamp, &mut text,
-            )?,
+            Format::Lines => side_lines::put_connection(connection, ends, &mut page),
+            Format::Json => reports::put_connection(connection, ends, stamp, &mut page),
         }
-        self.in_colour(Tone::Frame, text)
+        self.made(Tone::Frame, page)
     }
 
     /// The lines of a message. `objects` has the letters of object keys.
@@ -128,16 +154,13 @@ impl Printer {
         caught: Option<&Caught>,
         objects: &mut Objects,
     ) -> Result<String, AllocError> {
-        let mut text = String::with_capacity(self.alloc, USUAL)?;
+        let mut page = Page::of_message(self.alloc);
         let tone = tone_of(&shown);
-        match (self.format, caught) {
-            (Format::Lines, None) => lines::put_message(self.alloc, shown, &mut text)?,
-            (Format::Lines, Some(caught)) => {
-                caught_lines::put_message(self, shown, caught, objects, &mut text)?
-            }
-            (Format::Json, _) => json::put_message(self, shown, caught, objects, &mut text)?,
+        match self.format {
+            Format::Lines => lines::put_message(self, shown, caught, objects, &mut page),
+            Format::Json => json::put_message(self, shown, caught, objects, &mut page),
         }
-        self.in_colour(tone, text)
+        self.made_behind(tone, page, objects)
     }
 
     /// The line of a fault.
@@ -148,18 +171,12 @@ impl Printer {
         fault: LinkFault,
         looks: Option<Looks>,
     ) -> Result<String, AllocError> {
-        let mut text = String::new(self.alloc);
-        match (self.format, &spot.caught) {
-            (Format::Lines, None) => lines::put_fault(spot.sender, at, fault, looks, &mut text)?,
-            (Format::Lines, Some(caught)) => {
-                caught_lines::put_head(self, "fault", caught, spot, &mut text)?;
-                caught_lines::put_fault(at, fault, looks, &mut text)?
-            }
-            (Format::Json, _) => {
-                reports::put_fault(self.alloc, spot, at, fault, looks, &mut text)?
-            }
+        let mut page = Page::new(self.alloc);
+        match self.format {
+            Format::Lines => side_lines::put_fault(self, spot, at, fault, looks, &mut page),
+            Format::Json => reports::put_fault(spot, at, fault, looks, &mut page),
         }
-        self.in_colour(Tone::Fault, text)
+        self.made(Tone::Fault, page)
     }
 
     /// The line of octets that were passed over.
@@ -169,64 +186,52 @@ impl Printer {
 
     /// The line of octets that the capture missed.
     pub fn missing(&self, spot: &Spot, octets: u64) -> Result<String, AllocError> {
-        let mut text = String::new(self.alloc);
-        match (self.format, &spot.caught) {
-            (Format::Lines, None) => lines::put_missing(spot.sender, octets, &mut text)?,
-            (Format::Lines, Some(caught)) => {
-                caught_lines::put_head(self, "missing", caught, spot, &mut text)?;
-                write!(text, ": {octets} octets\n")?
-            }
-            (Format::Json, _) => reports::put_missing(self.alloc, spot, octets, &mut text)?,
+        let mut page = Page::new(self.alloc);
+        match self.format {
+            Format::Lines => side_lines::put_missing(self, spot, octets, &mut page),
+            Format::Json => reports::put_missing(spot, octets, &mut page),
         }
-        self.in_colour(Tone::Fault, text)
+        self.made(Tone::Fault, page)
     }
 
     /// The line of a side that closed its connection.
     pub fn closed(&self, spot: &Spot, closing: Closing) -> Result<String, AllocError> {
-        let mut text = String::new(self.alloc);
-        let name = closing.name();
-        match (self.format, &spot.caught) {
-            (Format::Lines, Some(caught)) => {
-                caught_lines::put_head(self, "closed", caught, spot, &mut text)?;
-                write!(text, ": {name}\n")?
-            }
-            (Format::Lines, None) => {}
-            (Format::Json, _) => reports::put_closed(self.alloc, spot, name, &mut text)?,
+        let mut page = Page::new(self.alloc);
+        match self.format {
+            Format::Lines => side_lines::put_closed(self, spot, closing.name(), &mut page),
+            Format::Json => reports::put_closed(spot, closing.name(), &mut page),
         }
         let tone = match closing {
             Closing::Fin => Tone::Frame,
             Closing::Reset => Tone::Fault,
         };
-        self.in_colour(tone, text)
+        self.made(tone, page)
     }
 
     /// The line of what is left of a side, if something is.
     pub fn left(&self, spot: &Spot, left: Left) -> Result<String, AllocError> {
-        let mut text = String::new(self.alloc);
-        match (self.format, &spot.caught) {
-            (Format::Lines, None) => lines::put_left(spot.sender, left, &mut text)?,
-            (Format::Lines, Some(caught)) => {
-                caught_lines::put_left(self, caught, spot, left, &mut text)?
-            }
-            (Format::Json, _) => reports::put_left(self.alloc, spot, left, &mut text)?,
+        let mut page = Page::new(self.alloc);
+        match self.format {
+            Format::Lines => side_lines::put_left(self, spot, left, &mut page),
+            Format::Json => reports::put_left(spot, left, &mut page),
         }
-        self.in_colour(Tone::Fault, text)
+        self.made(Tone::Fault, page)
     }
 
     /// The lines of a summary.
     pub fn summary(&self, summary: &Summary, objects: &mut Objects) -> Result<String, AllocError> {
-        let mut text = String::new(self.alloc);
-        summaries::put_summary(self, summary, objects, &mut text)?;
-        Ok(text)
+        let mut page = Page::new(self.alloc);
+        summaries::put_summary(self, summary, objects, &mut page);
+        self.made_behind(Tone::Plain, page, objects)
     }
 
     /// The lines at the end.
     pub fn counts(&self, counts: &Counts) -> Result<String, AllocError> {
-        let mut text = String::new(self.alloc);
+        let mut page = Page::new(self.alloc);
         match self.format {
-            Format::Lines => end_lines::put_counts(counts, &mut text)?,
-            Format::Json => reports::put_counts(self.alloc, counts, &mut text)?,
+            Format::Lines => end_lines::put_counts(counts, &mut page),
+            Format::Json => reports::put_counts(counts, &mut page),
         }
-        Ok(text)
+        page.finish()
     }
 }

@@ -1,242 +1,160 @@
 //! The lines of what was counted of calls, for a person and as JSON.
 
-use crate::caught_forwards::put_key;
-use crate::caught_lines::put_seconds;
+use crate::fields::Value;
+use crate::forward_lines::put_key;
+use crate::json::put_letter;
 use crate::objects::Objects;
+use crate::page::Page;
+use crate::places::put_seconds;
 use crate::printing::{Format, Printer};
-use crate::reports::put_object;
 use crate::summary::{Called, Endings, Row, Summary};
-use giop_text::text_of;
-use serde::Serialize;
-use std::alloc::{AllocError, Global};
-use std::collections::BTreeMap;
-
-/// How many answers were an exception of a name.
-#[derive(Drop, Serialize)]
-struct ExceptionObject {
-    name: String,
-    count: u64,
-}
-
-/// The calls of an operation on an object.
-#[derive(Drop, Serialize)]
-struct RowObject {
-    line: &'static str,
-    key: Option<String>,
-    object: Option<String>,
-    operation: Option<String>,
-    requests: u64,
-    answers: u64,
-    repeats: u64,
-    asked: u64,
-    answered: u64,
-    latency50: Option<u64>,
-    latency90: Option<u64>,
-    latency99: Option<u64>,
-    greatest: Option<u64>,
-    exceptions: Vec<ExceptionObject>,
-    #[serde(skip_serializing_if = "Option::is_none")]
-    others: Option<bool>,
-}
-
-/// How many connections ended how.
-#[derive(Drop, Serialize)]
-struct EndingsObject {
-    line: &'static str,
-    close: u64,
-    error: u64,
-    reset: u64,
-    fin: u64,
-    open: u64,
-}
 
 /// Appends a latency at a place among a hundred.
-fn put_latency(name: &str, latency: Option<u64>, text: &mut String) -> Result<(), AllocError> {
-    let Some(latency) = latency else {
-        return Ok(());
-    };
-    write!(text, " {name} ")?;
-    put_seconds(latency, text)
+fn put_latency(name: &str, latency: Option<u64>, page: &mut Page) {
+    if let Some(latency) = latency {
+        page.put_all(&[" ", name, " "]);
+        put_seconds(latency, page);
+    }
 }
 
 /// Appends what calls a row is of.
-fn put_called(
-    alloc: Global,
-    called: &Called,
-    objects: &mut Objects,
-    text: &mut String,
-) -> Result<(), AllocError> {
+fn put_called(called: &Called, objects: &mut Objects, page: &mut Page) {
     match &called.key {
-        Some(key) => put_key(alloc, key, objects, text)?,
-        None => text.push_str("no key")?,
+        Some(key) => put_key(key, objects, page),
+        None => page.put("no key"),
     }
     match &called.operation {
         Some(operation) => {
-            let operation = text_of(alloc, operation)?;
-            write!(text, " operation {operation}:")
+            page.put(" operation ");
+            page.octets(operation);
+            page.put(":")
         }
-        None => text.push_str(" LocateRequest:"),
+        None => page.put(" LocateRequest:"),
     }
 }
 
 /// Appends the lines of a row; none is the one of all other calls.
-fn put_row(
-    alloc: Global,
-    called: Option<&Called>,
-    row: &Row,
-    objects: &mut Objects,
-    text: &mut String,
-) -> Result<(), AllocError> {
+fn put_row(called: Option<&Called>, row: &Row, objects: &mut Objects, page: &mut Page) {
     match called {
-        Some(called) => put_called(alloc, called, objects, text)?,
-        None => text.push_str("(others):")?,
+        Some(called) => put_called(called, objects, page),
+        None => page.put("(others):"),
     }
-    let (requests, answers, repeats) = (row.requests, row.answers, row.repeats);
-    let (asked, answered) = (row.asked, row.answered);
-    write!(
-        text,
-        " {requests} requests, {answers} answers, {repeats} repeats, {asked} octets asked, {answered} answered\n"
-    )?;
-    put_latencies(row, text)?;
-    put_exceptions(alloc, row, text)
+    page.number(" ", row.requests, " requests, ");
+    page.number("", row.answers, " answers, ");
+    page.number("", row.repeats, " repeats, ");
+    page.number("", row.asked, " octets asked, ");
+    page.number("", row.answered, " answered\n");
+    put_latencies(row, page);
+    for (name, count) in &row.exceptions {
+        page.put("  exception ");
+        page.octets(name);
+        page.number(": ", *count, "\n");
+    }
 }
 
 /// Appends the line of latencies, if some are known.
-fn put_latencies(row: &Row, text: &mut String) -> Result<(), AllocError> {
+fn put_latencies(row: &Row, page: &mut Page) {
     if row.greatest.is_none() {
-        return Ok(());
+        return;
     }
-    text.push_str("  latency in seconds:")?;
-    put_latency("50%", row.latency_at(50), text)?;
-    put_latency("90%", row.latency_at(90), text)?;
-    put_latency("99%", row.latency_at(99), text)?;
-    put_latency("greatest", row.greatest, text)?;
-    text.push('\n')
+    page.put("  latency in seconds:");
+    put_latency("50%", row.latency_at(50), page);
+    put_latency("90%", row.latency_at(90), page);
+    put_latency("99%", row.latency_at(99), page);
+    put_latency("greatest", row.greatest, page);
+    page.put("\n");
 }
 
-/// Appends a line for each exception.
-fn put_exceptions(alloc: Global, row: &Row, text: &mut String) -> Result<(), AllocError> {
+/// Appends the fields of which calls a row is; those of all other calls are of none.
+fn put_called_fields(called: Option<&Called>, objects: &mut Objects, page: &mut Page) {
+    let (key, operation) = match called {
+        Some(called) => (called.key(), called.operation()),
+        None => (None, None),
+    };
+    page.field("key", &Value::digits(key));
+    match key {
+        Some(key) => put_letter(true, key, objects, page),
+        None => page.field("object", &Value::Null),
+    }
+    page.field("operation", &Value::octets(operation));
+}
+
+/// Appends how many answers were an exception, by their names.
+fn put_exceptions(row: &Row, page: &mut Page) {
+    page.name("exceptions");
+    page.put("[");
     for (name, count) in &row.exceptions {
-        let name = text_of(alloc, name)?;
-        write!(text, "  exception {name}: {count}\n")?;
+        page.apart();
+        page.put("{");
+        page.fields(&[
+            ("name", Value::Octets(name)),
+            ("count", Value::Number(*count)),
+        ]);
+        page.put("}");
     }
-    Ok(())
-}
-
-/// The objects of exceptions.
-fn exception_objects(
-    alloc: Global,
-    exceptions: &BTreeMap<Vec<u8>, u64>,
-) -> Result<Vec<ExceptionObject>, AllocError> {
-    let mut objects = Vec::new(alloc);
-    for (name, count) in exceptions {
-        objects.push(ExceptionObject {
-            name: text_of(alloc, name)?,
-            count: *count,
-        })?;
-    }
-    Ok(objects)
-}
-
-/// Which calls a row is of, for its object.
-#[derive(Drop)]
-struct CalledTexts {
-    key: Option<String>,
-    object: Option<String>,
-    operation: Option<String>,
-}
-
-/// The texts of an operation on an object.
-fn called_texts(
-    alloc: Global,
-    called: &Called,
-    objects: &mut Objects,
-) -> Result<CalledTexts, AllocError> {
-    let mut texts = no_texts();
-    if let Some(key) = &called.key {
-        texts.key = Some(digits::encode(alloc, key)?);
-        texts.object = objects.letter(key)?;
-    }
-    if let Some(operation) = &called.operation {
-        texts.operation = Some(text_of(alloc, operation)?);
-    }
-    Ok(texts)
-}
-
-/// Those of all other calls.
-fn no_texts() -> CalledTexts {
-    CalledTexts {
-        key: None,
-        object: None,
-        operation: None,
-    }
+    page.put("]");
 }
 
 /// Appends the object of a row; none is the one of all other calls.
-fn put_row_object(
-    alloc: Global,
-    called: Option<&Called>,
-    row: &Row,
-    objects: &mut Objects,
-    text: &mut String,
-) -> Result<(), AllocError> {
-    let texts = match called {
-        Some(called) => called_texts(alloc, called, objects)?,
-        None => no_texts(),
-    };
-    let object = RowObject {
-        line: "calls",
-        key: texts.key,
-        object: texts.object,
-        operation: texts.operation,
-        requests: row.requests,
-        answers: row.answers,
-        repeats: row.repeats,
-        asked: row.asked,
-        answered: row.answered,
-        latency50: row.latency_at(50),
-        latency90: row.latency_at(90),
-        latency99: row.latency_at(99),
-        greatest: row.greatest,
-        exceptions: exception_objects(alloc, &row.exceptions)?,
-        others: if called.is_none() { Some(true) } else { None },
-    };
-    put_object(alloc, &object, text)
+fn put_row_object(called: Option<&Called>, row: &Row, objects: &mut Objects, page: &mut Page) {
+    page.begin("calls");
+    put_called_fields(called, objects, page);
+    page.fields(&[
+        ("requests", Value::Number(row.requests)),
+        ("answers", Value::Number(row.answers)),
+        ("repeats", Value::Number(row.repeats)),
+        ("asked", Value::Number(row.asked)),
+        ("answered", Value::Number(row.answered)),
+        ("latency50", Value::number(row.latency_at(50))),
+        ("latency90", Value::number(row.latency_at(90))),
+        ("latency99", Value::number(row.latency_at(99))),
+        ("greatest", Value::number(row.greatest)),
+    ]);
+    put_exceptions(row, page);
+    if called.is_none() {
+        page.field("others", &Value::Truth(true));
+    }
+    page.end();
 }
 
 /// Appends the lines of a row, in the form of the printer.
 fn put_calls(
-    printer: &Printer,
+    format: Format,
     called: Option<&Called>,
     row: &Row,
     objects: &mut Objects,
-    text: &mut String,
-) -> Result<(), AllocError> {
-    match printer.format {
-        Format::Lines => put_row(printer.alloc, called, row, objects, text),
-        Format::Json => put_row_object(printer.alloc, called, row, objects, text),
+    page: &mut Page,
+) {
+    match format {
+        Format::Lines => put_row(called, row, objects, page),
+        Format::Json => put_row_object(called, row, objects, page),
     }
 }
 
 /// Appends the line of how connections ended.
-fn put_endings(printer: &Printer, endings: &Endings, text: &mut String) -> Result<(), AllocError> {
-    let (close, error, reset) = (endings.close, endings.error, endings.reset);
-    let (fin, open) = (endings.fin, endings.open);
-    if let Format::Json = printer.format {
-        let object = EndingsObject {
-            line: "endings",
-            close,
-            error,
-            reset,
-            fin,
-            open,
-        };
-        return put_object(printer.alloc, &object, text);
-    }
-    write!(
-        text,
-        "connections by their end: CloseConnection {close}, MessageError {error}, RST {reset}, FIN {fin}, none {open}\n"
-    )
+fn put_endings(endings: &Endings, page: &mut Page) {
+    page.number(
+        "connections by their end: CloseConnection ",
+        endings.close,
+        "",
+    );
+    page.number(", MessageError ", endings.error, "");
+    page.number(", RST ", endings.reset, "");
+    page.number(", FIN ", endings.fin, "");
+    page.number(", none ", endings.open, "\n");
+}
+
+/// Appends the object of how connections ended.
+fn put_endings_object(endings: &Endings, page: &mut Page) {
+    page.begin("endings");
+    page.fields(&[
+        ("close", Value::Number(endings.close)),
+        ("error", Value::Number(endings.error)),
+        ("reset", Value::Number(endings.reset)),
+        ("fin", Value::Number(endings.fin)),
+        ("open", Value::Number(endings.open)),
+    ]);
+    page.end();
 }
 
 /// Appends the lines of a summary.
@@ -244,18 +162,16 @@ pub(crate) fn put_summary(
     printer: &Printer,
     summary: &Summary,
     objects: &mut Objects,
-    text: &mut String,
-) -> Result<(), AllocError> {
-    let mut lines = String::new(printer.alloc);
+    page: &mut Page,
+) {
     for (called, row) in &summary.rows {
-        put_calls(printer, Some(called), row, objects, &mut lines)?;
+        put_calls(printer.format, Some(called), row, objects, page);
     }
     if summary.others.requests > 0 {
-        put_calls(printer, None, &summary.others, objects, &mut lines)?;
+        put_calls(printer.format, None, &summary.others, objects, page);
     }
-    if let Format::Lines = printer.format {
-        objects.put_fresh(text)?;
+    match printer.format {
+        Format::Lines => put_endings(&summary.endings, page),
+        Format::Json => put_endings_object(&summary.endings, page),
     }
-    text.push_str(&lines)?;
-    put_endings(printer, &summary.endings, text)
 }

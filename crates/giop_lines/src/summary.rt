@@ -23,7 +23,7 @@ pub struct Row {
 
 /// What a row is of: the key of the object, none where requests name it otherwise; and the operation, none of
 /// LocateRequests.
-#[derive(PartialEq, Eq, PartialOrd, Ord, Debug, Drop)]
+#[derive(PartialEq, Eq, PartialOrd, Ord, Drop)]
 pub struct Called {
     pub key: Option<Vec<u8>>,
     pub operation: Option<Vec<u8>>,
@@ -51,7 +51,7 @@ impl Called {
     }
 
     /// The key of the object, if there is one.
-    fn key(&self) -> Option<&[u8]> {
+    pub(crate) fn key(&self) -> Option<&[u8]> {
         match &self.key {
             Some(key) => Some(key),
             None => None,
@@ -59,7 +59,7 @@ impl Called {
     }
 
     /// The operation, if there is one.
-    fn operation(&self) -> Option<&[u8]> {
+    pub(crate) fn operation(&self) -> Option<&[u8]> {
         match &self.operation {
             Some(operation) => Some(operation),
             None => None,
@@ -68,14 +68,14 @@ impl Called {
 
     /// How many octets both have.
     fn size(&self) -> usize {
-        let key = self.key().map_or(0, |key| key.len());
-        let operation = self.operation().map_or(0, |operation| operation.len());
-        key.saturating_add(operation)
+        let key = self.key().unwrap_or(&[]);
+        let operation = self.operation().unwrap_or(&[]);
+        key.len().saturating_add(operation.len())
     }
 }
 
 /// How a connection ended, or that it did not while it was captured.
-#[derive(Clone, Copy, Debug, PartialEq, Eq)]
+#[derive(Clone, Copy)]
 pub enum Ending {
     Open,
     /// TCP alone.
@@ -87,7 +87,7 @@ pub enum Ending {
 }
 
 /// How many connections ended how.
-#[derive(Clone, Copy, Debug, PartialEq, Eq)]
+#[derive(Clone, Copy)]
 pub struct Endings {
     pub close: u64,
     pub error: u64,
@@ -261,7 +261,10 @@ impl Row {
         for (latency, count) in &self.latencies {
             seen = seen.saturating_add(*count);
             if seen >= rank {
-                return Some(self.greatest.map_or(*latency, |most| most.min(*latency)));
+                return match self.greatest {
+                    Some(most) => Some(most.min(*latency)),
+                    None => Some(*latency),
+                };
             }
         }
         None

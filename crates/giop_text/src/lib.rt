@@ -12,7 +12,7 @@ mod names;
 mod text;
 
 // octets in lines of text
-pub use text::{digits_of, text_of};
+pub use text::{digits_of, host_port, text_of};
 
 // a message, and its parts
 pub use messages::{

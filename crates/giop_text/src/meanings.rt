@@ -2,7 +2,7 @@
 //! ORB that made a reference and other addresses of an object (IOP 7.6.6).
 
 use crate::names::component_name;
-use crate::text::text_of;
+use crate::text::host_port;
 use cdr_core::Cursor;
 use ior_core::Component;
 use std::alloc::{AllocError, Global};
@@ -57,7 +57,8 @@ fn put_code_set(number: u32, text: &mut String) -> Result<(), AllocError> {
     }
 }
 
-/// The code sets of one kind of characters in a component: the native one, and those that are converted. None: there are none.
+/// The code sets of one kind of characters in a component: the native one, and those others that are converted. None: there
+/// are none.
 fn code_sets_in(alloc: Global, cursor: &mut Cursor) -> Result<Option<Vec<u32>>, AllocError> {
     let mut sets = Vec::new(alloc);
     let Ok(native) = cursor.ulong() else {
@@ -69,6 +70,7 @@ fn code_sets_in(alloc: Global, cursor: &mut Cursor) -> Result<Option<Vec<u32>>, 
     sets.push(native)?;
     for _ in 0..count {
         match cursor.ulong() {
+            Ok(set) if set == native => {}
             Ok(set) => sets.push(set)?,
             Err(_) => return Ok(None),
         }
@@ -152,8 +154,7 @@ fn put_address(alloc: Global, octets: &[u8], text: &mut String) -> Result<(), Al
     let Some((host, port)) = address_in(octets) else {
         return text.push_str(BAD);
     };
-    text.push_str(&text_of(alloc, host)?)?;
-    write!(text, ":{port}")
+    text.push_str(&host_port(alloc, host, port)?)
 }
 
 /// What the octets of a component say: code sets, an ORB or an address, or `bad` where they are none. None: its tag says

@@ -1,8 +1,6 @@
 //! The names that the standard gives: of system exceptions, of service contexts and of components of
 //! profiles.
 
-use giop_core::FT_REQUEST;
-
 /// The system exceptions (CORBA 3.3 Part 1, annex A).
 const SYSTEM_EXCEPTIONS: [&str; 40] = [
     "UNKNOWN",
@@ -73,59 +71,80 @@ pub fn completion_name(number: u32) -> &'static str {
     }
 }
 
-/// The name of a service context's id (IOP 7.7, and the standards that add to it).
+/// The service contexts by their ids, from 0 on (IOP 7.7, and the standards that add to it).
+const CONTEXTS: [&str; 22] = [
+    "TransactionService",
+    "CodeSets",
+    "ChainBypassCheck",
+    "ChainBypassInfo",
+    "LogicalThreadId",
+    "BI_DIR_IIOP",
+    "SendingContextRunTime",
+    "INVOCATION_POLICIES",
+    "FORWARDED_IDENTITY",
+    "UnknownExceptionInfo",
+    "RTCorbaPriority",
+    "RTCorbaPriorityRange",
+    "FT_GROUP_VERSION",
+    "FT_REQUEST",
+    "ExceptionDetailMessage",
+    "SecurityAttributeService",
+    "ActivityService",
+    "RMICustomMaxStreamFormat",
+    "ACCESS_SESSION_ID",
+    "SERVICE_SESSION_ID",
+    "FIREWALL_PATH",
+    "FIREWALL_PATH_RESP",
+];
+
+/// The name of a service context's id. None: the standards have none.
 pub fn context_name(id: u32) -> Option<&'static str> {
-    let name = match id {
-        0 => "TransactionService",
-        1 => "CodeSets",
-        2 => "ChainBypassCheck",
-        3 => "ChainBypassInfo",
-        4 => "LogicalThreadId",
-        5 => "BI_DIR_IIOP",
-        6 => "SendingContextRunTime",
-        7 => "INVOCATION_POLICIES",
-        8 => "FORWARDED_IDENTITY",
-        9 => "UnknownExceptionInfo",
-        10 => "RTCorbaPriority",
-        11 => "RTCorbaPriorityRange",
-        12 => "FT_GROUP_VERSION",
-        FT_REQUEST => "FT_REQUEST",
-        14 => "ExceptionDetailMessage",
-        15 => "SecurityAttributeService",
-        16 => "ActivityService",
-        17 => "RMICustomMaxStreamFormat",
-        18 => "ACCESS_SESSION_ID",
-        19 => "SERVICE_SESSION_ID",
-        20 => "FIREWALL_PATH",
-        21 => "FIREWALL_PATH_RESP",
-        _ => return None,
-    };
-    Some(name)
+    CONTEXTS.get(id as usize).copied()
 }
 
-/// The name of the tag of a component of a profile (IOP 7.6.6, and the standards that add to it).
+/// The components of profiles by their tags (IOP 7.6.6, and the standards that add to it).
+const COMPONENTS: [(u32, &str); 31] = [
+    (0, "ORB_TYPE"),
+    (1, "CODE_SETS"),
+    (2, "POLICIES"),
+    (3, "ALTERNATE_IIOP_ADDRESS"),
+    (5, "COMPLETE_OBJECT_KEY"),
+    (6, "ENDPOINT_ID_POSITION"),
+    (12, "LOCATION_POLICY"),
+    (13, "ASSOCIATION_OPTIONS"),
+    (14, "SEC_NAME"),
+    (15, "SPKM_1_SEC_MECH"),
+    (16, "SPKM_2_SEC_MECH"),
+    (17, "KerberosV5_SEC_MECH"),
+    (18, "CSI_ECMA_Secret_SEC_MECH"),
+    (19, "CSI_ECMA_Hybrid_SEC_MECH"),
+    (20, "SSL_SEC_TRANS"),
+    (21, "CSI_ECMA_Public_SEC_MECH"),
+    (22, "GENERIC_SEC_MECH"),
+    (23, "FIREWALL_TRANS"),
+    (24, "SCCP_CONTACT_INFO"),
+    (25, "JAVA_CODEBASE"),
+    (27, "FT_GROUP"),
+    (28, "FT_PRIMARY"),
+    (29, "FT_HEARTBEAT_ENABLED"),
+    (33, "CSI_SEC_MECH_LIST"),
+    (34, "NULL_TAG"),
+    (36, "TLS_SEC_TRANS"),
+    (100, "DCE_STRING_BINDING"),
+    (101, "DCE_BINDING_NAME"),
+    (102, "DCE_NO_PIPES"),
+    (103, "DCE_SEC_MECH"),
+    (123, "INET_SEC_TRANS"),
+];
+
+/// The name of the tag of a component of a profile. None: the standards have none.
 pub fn component_name(tag: u32) -> Option<&'static str> {
-    let name = match tag {
-        0 => "ORB_TYPE",
-        1 => "CODE_SETS",
-        2 => "POLICIES",
-        3 => "ALTERNATE_IIOP_ADDRESS",
-        5 => "COMPLETE_OBJECT_KEY",
-        6 => "ENDPOINT_ID_POSITION",
-        12 => "LOCATION_POLICY",
-        13 => "ASSOCIATION_OPTIONS",
-        14 => "SEC_NAME",
-        20 => "SSL_SEC_TRANS",
-        25 => "JAVA_CODEBASE",
-        27 => "FT_GROUP",
-        28 => "FT_PRIMARY",
-        29 => "FT_HEARTBEAT_ENABLED",
-        33 => "CSI_SEC_MECH_LIST",
-        34 => "NULL_TAG",
-        36 => "TLS_SEC_TRANS",
-        _ => return None,
-    };
-    Some(name)
+    for (known, name) in COMPONENTS {
+        if known == tag {
+            return Some(name);
+        }
+    }
+    None
 }
 
 /// The name of the tag of a profile (IOP 7.6.4).

@@ -46,3 +46,24 @@ pub fn digits_of(alloc: Global, octets: &[u8]) -> Result<String, AllocError>
     }
     digits::encode(alloc, octets)
 }
+
+/// Whether a host has colons, as an address of IPv6 has.
+fn has_colons(host: &[u8]) -> bool
+    ensures { result ≡ text.has_colons host.now }
+{
+    host.contains(&b':')
+}
+
+/// An address: its host and its port. A host that has colons, as an address of IPv6, stands in brackets.
+pub fn host_port(alloc: Global, host: &[u8], port: u16) -> Result<String, AllocError>
+    ensures { IfOk result (λ line. string_bytes line ≡ text.host_port host.now port) }
+{
+    let name = text_of(alloc, host)?;
+    let mut line = String::new(alloc);
+    if has_colons(host) {
+        write!(line, "[{name}]:{port}")?;
+        return Ok(line);
+    }
+    write!(line, "{name}:{port}")?;
+    Ok(line)
+}

@@ -6,7 +6,7 @@ use std::alloc::{AllocError, Global};
 
 /// Which messages are asked for. A request is, where all that is given of it holds; an answer or a cancel, where its
 /// request is.
-#[derive(Clone, Copy, Debug, PartialEq, Eq)]
+#[derive(Clone, Copy)]
 pub struct Choice<'a> {
     /// Requests of this operation.
     pub operation: Option<&'a str>,

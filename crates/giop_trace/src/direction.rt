@@ -13,7 +13,7 @@ use giop_tap::{Sender, Trace};
 use std::alloc::{AllocError, Global};
 
 /// What is done with a side's octets.
-#[derive(Clone, Copy, PartialEq, Eq)]
+#[derive(Clone, Copy)]
 enum Mode {
     /// The header of a frame is awaited.
     Header,
@@ -54,6 +54,14 @@ pub(crate) struct Reading {
     pub limits: Limits,
     /// After a fault reading goes on at the next header of a plausible message.
     pub resumes: bool,
+}
+
+/// So many octets of a frame, and of partial messages, if there are some.
+fn rest_of(octets: u64, partial: u64) -> Left {
+    match (octets, partial) {
+        (0, 0) => Left::Nothing,
+        _ => Left::Rest(octets, partial),
+    }
 }
 
 impl Direction {
@@ -114,7 +122,7 @@ impl Direction {
 
     /// Whether a step is due before more octets come: a whole header is held that was not read.
     pub fn is_due(&self) -> bool {
-        self.mode == Mode::Header && self.head.len() >= Header::LEN
+        matches!(self.mode, Mode::Header) && self.head.len() >= Header::LEN
     }
 
     /// Goes on behind the frame.
@@ -126,7 +134,10 @@ impl Direction {
 
     /// Passes over the frame whose header is held.
     fn skip_frame(&mut self) {
-        self.left = header_in(&self.head).map_or(0, |header| u64::from(header.size));
+        self.left = match header_in(&self.head) {
+            Some(header) => u64::from(header.size),
+            None => 0,
+        };
         self.pass(HEADER);
         self.head.clear();
         self.mode = if self.left == 0 {
@@ -341,7 +352,7 @@ impl Direction {
     /// Leaves so many octets out, which the capture missed. The message that they fall into ends there; reading goes on
     /// behind its frame where that is known, and else at the next header of a plausible message.
     pub fn miss(&mut self, sender: Sender, octets: u64, trace: &mut Trace) {
-        if self.mode == Mode::Ended {
+        if let Mode::Ended = self.mode {
             self.taken = self.taken.saturating_add(octets);
             return;
         }
@@ -376,22 +387,11 @@ impl Direction {
             Mode::Skipping | Mode::Next | Mode::Seeking => {
                 Left::Passed(self.start, self.passed.saturating_add(head))
             }
-            Mode::Header | Mode::Body => {
-                let octets = if self.mode == Mode::Body {
-                    self.frame_given()
-                } else {
-                    head
-                };
+            Mode::Header => rest_of(head, trace.held(sender) as u64),
+            Mode::Body => {
+                let octets = self.frame_given();
                 let held = trace.held(sender) as u64;
-                let partial = if self.mode == Mode::Body {
-                    held.saturating_sub(octets)
-                } else {
-                    held
-                };
-                if octets == 0 && partial == 0 {
-                    return Left::Nothing;
-                }
-                Left::Rest(octets, partial)
+                rest_of(octets, held.saturating_sub(octets))
             }
         }
     }

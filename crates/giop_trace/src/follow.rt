@@ -34,19 +34,37 @@ fn is_digit(octet: u8) -> bool {
     octet.is_ascii_hexdigit()
 }
 
+/// Whether all octets are hexadecimal digits.
+pub(crate) fn are_digits(octets: &[u8]) -> bool {
+    for octet in octets {
+        if !is_digit(*octet) {
+            return false;
+        }
+    }
+    true
+}
+
+/// Whether all octets are hexadecimal digits or colons.
+fn are_digits_and_colons(octets: &[u8]) -> bool {
+    for octet in octets {
+        if !is_digit(*octet) && *octet != b':' {
+            return false;
+        }
+    }
+    true
+}
+
 /// Whether digits have colons between them, the first behind two digits.
 fn has_colons(digits: &[u8]) -> bool {
     match digits {
-        [a, b, b':', ..] => {
-            is_digit(*a) && is_digit(*b) && digits.iter().all(|o| is_digit(*o) || *o == b':')
-        }
+        [a, b, b':', ..] => is_digit(*a) && is_digit(*b) && are_digits_and_colons(digits),
         _ => false,
     }
 }
 
 /// Why digits that are no octets are refused, if they are.
 fn refusal(digits: &[u8]) -> Option<LineError> {
-    if !digits.is_empty() && digits.iter().all(|octet| is_digit(*octet)) {
+    if !digits.is_empty() && are_digits(digits) {
         return Some(LineError::OddDigits);
     }
     if has_colons(digits) {

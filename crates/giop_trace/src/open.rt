@@ -27,10 +27,13 @@ pub(crate) struct Open {
 
 /// A stamp after an earlier one of the same side: octets count as come when all before them have.
 fn stamp_after(earlier: Option<Stamp>, stamp: Stamp) -> Stamp {
-    let time = earlier.and_then(|earlier| earlier.time);
+    let time = match earlier {
+        Some(earlier) => later_time(earlier.time, stamp.time),
+        None => stamp.time,
+    };
     Stamp {
         frame: stamp.frame,
-        time: later_time(time, stamp.time),
+        time,
     }
 }
 
@@ -151,6 +154,11 @@ impl Open {
             Sender::Opener => self.opener_stamp,
             Sender::Acceptor => self.acceptor_stamp,
         }
+    }
+
+    /// When what came last of a side came, where that is known.
+    pub fn time(&self, sender: Sender) -> Option<u64> {
+        self.stamp(sender)?.time
     }
 
     /// What a capture tells of what came last of a side.

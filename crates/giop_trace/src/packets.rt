@@ -41,6 +41,18 @@ const MOST_HELD: u64 = 67_108_864;
 /// So many connections are followed at a time at most.
 const MOST_CONNECTIONS: usize = 65_536;
 
+/// Ends a connection at the end of the lines.
+fn end_coming<W: Write>(
+    mut coming: Coming,
+    session: &mut Session,
+    out: &mut Sink<W>,
+) -> Result<(), Stop> {
+    match coming.block.is_absent() {
+        true => Err(Stop::Absent),
+        false => coming.end(session, out),
+    }
+}
+
 impl Packets {
     /// Before the first line.
     pub fn new(alloc: Global) -> Packets {
@@ -112,20 +124,58 @@ impl Packets {
 
     /// Takes the packet whose lines have come.
     fn end_item<W: Write>(&mut self, session: &mut Session, out: &mut Sink<W>) -> Result<(), Stop> {
-        let Some(item) = self.item.take() else {
-            return Ok(());
-        };
-        let given = item.given(self.alloc)?;
-        let is_told = match self.coming.get(&given.key) {
-            Some(coming) => coming.block.stream.is_some(),
-            None if Some(given.key) <= self.greatest => true,
-            None => return Err(Stop::Yaml(item.line)),
-        };
-        if is_told {
-            return self.trace(given, session, out);
+        match self.item.take() {
+            Some(item) => self.take_item(&item, session, out),
+            None => Ok(()),
         }
+    }
+
+    /// Takes such a packet.
+    fn take_item<W: Write>(
+        &mut self,
+        item: &Item,
+        session: &mut Session,
+        out: &mut Sink<W>,
+    ) -> Result<(), Stop> {
+        let given = item.given(self.alloc)?;
+        match self.is_told(given.key) {
+            Some(true) => self.trace(given, session, out),
+            Some(false) => self.hold_on(given, session, out),
+            None => Err(Stop::Yaml(item.line)),
+        }
+    }
+
+    /// Whether the packets of a connection are told with the number of its stream. None: no such one has come.
+    fn is_told(&self, key: u64) -> Option<bool> {
+        match self.coming.get(&key) {
+            Some(coming) => Some(coming.block.stream.is_some()),
+            None if Some(key) <= self.greatest => Some(true),
+            None => None,
+        }
+    }
+
+    /// Holds what a packet gives, and makes room for it.
+    fn hold_on<W: Write>(
+        &mut self,
+        given: Given,
+        session: &mut Session,
+        out: &mut Sink<W>,
+    ) -> Result<(), Stop> {
         self.hold(given)?;
         self.release(MOST_HELD, session, out)
+    }
+
+    /// Ends the connection of a key, if there is one.
+    fn end_earlier<W: Write>(
+        &mut self,
+        key: u64,
+        session: &mut Session,
+        out: &mut Sink<W>,
+    ) -> Result<(), Stop> {
+        match self.coming.remove(&key) {
+            Some(mut earlier) => earlier.end(session, out),
+            None => Ok(()),
+        }
     }
 
     /// Begins the next connection.
@@ -140,9 +190,7 @@ impl Packets {
             Some(stream) => stream,
             None => self.last.saturating_add(1),
         };
-        if let Some(mut earlier) = self.coming.remove(&key) {
-            earlier.end(session, out)?;
-        }
+        self.end_earlier(key, session, out)?;
         if self.coming.len() >= MOST_CONNECTIONS {
             return Err(Stop::Connections(line));
         }
@@ -219,13 +267,10 @@ impl Packets {
         self.end_item(session, out)?;
         self.release(0, session, out)?;
         for _ in 0..u64::MAX {
-            let Some((_, mut coming)) = self.coming.pop_first() else {
+            let Some((_, coming)) = self.coming.pop_first() else {
                 break;
             };
-            if coming.block.is_absent() {
-                return Err(Stop::Absent);
-            }
-            coming.end(session, out)?;
+            end_coming(coming, session, out)?;
         }
         Ok(())
     }

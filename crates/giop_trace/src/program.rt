@@ -15,7 +15,7 @@ use std::alloc::{AllocError, Global};
 use std::io::{BufWriter, Read, Write};
 
 /// What is asked of a trace.
-#[derive(Clone, Copy, Debug, PartialEq, Eq)]
+#[derive(Clone, Copy)]
 pub struct Options<'a> {
     /// The input is octets of one direction, and not what tshark prints.
     pub is_raw: bool,
@@ -84,8 +84,13 @@ impl<R: Read> Run<'_, R> {
         self.session.begin(&ALONE, None, out)?;
         self.session.take_raw(first, out)?;
         let mut buffer = vec![in self.alloc; 0u8; PIECE]?;
+        self.read_raw(&mut buffer, out)
+    }
+
+    /// Traces the octets that come, which are read into a buffer.
+    fn read_raw<W: Write>(&mut self, buffer: &mut [u8], out: &mut Sink<W>) -> Result<(), Stop> {
         for _ in 0..u64::MAX {
-            let count = self.source.read(&mut buffer)?;
+            let count = self.source.read(buffer)?;
             if count == 0 {
                 break;
             }
@@ -98,12 +103,32 @@ impl<R: Read> Run<'_, R> {
     /// Traces the connections in lines.
     fn run_text<W: Write>(&mut self, first: &[u8], out: &mut Sink<W>) -> Result<(), Stop> {
         let mut text = Text::new(self.alloc);
+        self.run_lines(&mut text, first, out)
+    }
+
+    /// Traces those, of which these are the first octets.
+    fn run_lines<W: Write>(
+        &mut self,
+        text: &mut Text,
+        first: &[u8],
+        out: &mut Sink<W>,
+    ) -> Result<(), Stop> {
         text.take(first, &mut self.session, out)?;
         let mut buffer = vec![in self.alloc; 0u8; PIECE]?;
+        self.read_lines(text, &mut buffer, out)
+    }
+
+    /// Traces the lines that come, which are read into a buffer.
+    fn read_lines<W: Write>(
+        &mut self,
+        text: &mut Text,
+        buffer: &mut [u8],
+        out: &mut Sink<W>,
+    ) -> Result<(), Stop> {
         for _ in 0..u64::MAX {
             // (the next octets may be long in coming)
             out.flush()?;
-            let count = self.source.read(&mut buffer)?;
+            let count = self.source.read(buffer)?;
             if count == 0 {
                 break;
             }
@@ -129,14 +154,19 @@ impl<R: Read> Run<'_, R> {
         Ok(first)
     }
 
+    /// Traces the input, of which these are the first octets.
+    fn run_from<W: Write>(&mut self, first: &[u8], out: &mut Sink<W>) -> Result<(), Stop> {
+        judge(self.is_raw, first)?;
+        match self.is_raw {
+            true => self.run_raw(first, out),
+            false => self.run_text(first, out),
+        }
+    }
+
     /// Traces the input, and prints at the end what was counted.
     fn run<W: Write>(&mut self, out: &mut Sink<W>) -> Result<bool, Stop> {
         let first = self.first()?;
-        judge(self.is_raw, &first)?;
-        match self.is_raw {
-            true => self.run_raw(&first, out)?,
-            false => self.run_text(&first, out)?,
-        }
+        self.run_from(&first, out)?;
         self.session.end(out)?;
         out.flush()?;
         Ok(self.session.is_clean)

@@ -80,27 +80,22 @@ impl Session {
         out: &mut Sink<W>,
     ) -> Result<(), Stop> {
         match step {
-            Step::Idle => {}
-            Step::Gave => self.tell_seen(out)?,
+            Step::Idle => Ok(()),
+            Step::Gave => self.tell_seen(out),
             Step::Fault(at, fault, looks) => {
                 self.teller.counts.faults = self.teller.counts.faults.saturating_add(1);
                 self.is_clean = false;
-                let text = self
-                    .teller
-                    .printer
-                    .fault(&self.spot(sender), at, fault, looks)?;
-                self.print_fault(&text, out)?;
+                let spot = self.spot(sender);
+                let text = self.teller.printer.fault(&spot, at, fault, looks)?;
+                self.print_fault(&text, out)
             }
             Step::Passed(from, octets) => {
                 self.teller.counts.pass(octets);
-                let text = self
-                    .teller
-                    .printer
-                    .passed(&self.spot(sender), from, octets)?;
-                self.print_fault(&text, out)?;
+                let spot = self.spot(sender);
+                let text = self.teller.printer.passed(&spot, from, octets)?;
+                self.print_fault(&text, out)
             }
         }
-        Ok(())
     }
 
     /// Takes a step with octets of a side, and returns how many of them it took.
@@ -177,14 +172,44 @@ impl Session {
         Ok(())
     }
 
-    /// Sets the connection aside that the trace is on, if it is on one, and goes on with these ends.
-    fn set_aside(&mut self, ends: Ends) -> Result<(), Stop> {
-        let ends = self.trace.turn_to(ends);
-        let open = mem::replace(&mut self.open, Open::none(self.alloc));
+    /// Sets a connection aside, if it is one.
+    fn keep(&mut self, open: Open, ends: Ends) -> Result<(), Stop> {
         if open.number != 0 {
             self.others.insert(open.number, (open, ends))?;
         }
         Ok(())
+    }
+
+    /// Sets the connection aside that the trace is on, if it is on one, and goes on with this one.
+    fn go_on(&mut self, open: Open, ends: Ends) -> Result<(), Stop> {
+        let ends = self.trace.turn_to(ends);
+        let open = mem::replace(&mut self.open, open);
+        self.keep(open, ends)
+    }
+
+    /// Goes on with a new connection.
+    fn go_on_anew(&mut self, number: u64, ends: &Endpoints) -> Result<(), Stop> {
+        let open = Open::new(self.alloc, number, ends)?;
+        let ends = Ends::new(self.alloc, self.reading.limits, number);
+        self.go_on(open, ends)
+    }
+
+    /// Prints what stands before all lines of packets.
+    fn print_head<W: Write>(&mut self, out: &mut Sink<W>) -> Result<(), Stop> {
+        let text = self.teller.printer.head()?;
+        out.print(&text)
+    }
+
+    /// Prints the line of a connection.
+    fn print_connection<W: Write>(
+        &mut self,
+        number: u64,
+        ends: &Endpoints,
+        stamp: Option<Stamp>,
+        out: &mut Sink<W>,
+    ) -> Result<(), Stop> {
+        let text = self.teller.printer.connection(number, ends, stamp)?;
+        out.print(&text)
     }
 
     /// Begins another connection, with its first packet where that is known, and returns its number. The one before
@@ -197,14 +222,12 @@ impl Session {
     ) -> Result<u64, Stop> {
         let number = self.teller.counts.connections.saturating_add(1);
         self.teller.counts.connections = number;
-        let fresh = Ends::new(self.alloc, self.reading.limits, number);
-        self.set_aside(fresh)?;
-        self.open = Open::new(self.alloc, number, ends)?;
+        self.go_on_anew(number, ends)?;
         if stamp.is_some() && number == 1 {
-            out.print(&self.teller.printer.head()?)?;
+            self.print_head(out)?;
         }
         if self.teller.prints_connections() {
-            out.print(&self.teller.printer.connection(number, ends, stamp)?)?;
+            self.print_connection(number, ends, stamp, out)?;
         }
         Ok(number)
     }
@@ -214,12 +237,10 @@ impl Session {
         if self.open.number == number {
             return Ok(());
         }
-        let Some((open, ends)) = self.others.remove(&number) else {
-            return Ok(());
-        };
-        self.set_aside(ends)?;
-        self.open = open;
-        Ok(())
+        match self.others.remove(&number) {
+            Some((open, ends)) => self.go_on(open, ends),
+            None => Ok(()),
+        }
     }
 
     /// Takes note of the packet in which what comes next of a side stands.

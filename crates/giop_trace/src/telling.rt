@@ -7,7 +7,7 @@ use crate::sink::Sink;
 use crate::stop::Stop;
 use crate::values::values_in;
 use giop_core::{Body, Content, LocateStatus, ReplyStatus};
-use giop_lines::{Called, Counts, Objects, Printer, Shown, Summary, time_between};
+use giop_lines::{Called, Caught, Counts, Objects, Printer, Shown, Summary, time_between};
 use giop_tap::Seen;
 use giop_text::{exception_id, exception_name, system_exception};
 use giop_types::Table;
@@ -126,13 +126,26 @@ fn tally(
     let (Some(request), Some(_)) = (request, answered_by(seen)) else {
         return Ok(());
     };
+    tally_answer(alloc, content, request, latency, summary)
+}
+
+/// Counts an answer to a request in a summary.
+fn tally_answer(
+    alloc: Global,
+    content: &Content,
+    request: &Request,
+    latency: Option<u64>,
+    summary: &mut Summary,
+) -> Result<(), AllocError> {
     let (octets, exception) = outcome_of(content);
-    let name = match exception {
-        Some(name) => Some(Vec::from_slice(alloc, name)?),
-        None => None,
-    };
     let called = Called::new(alloc, request.key(), request.operation())?;
-    summary.answer(&called, octets, latency, name)
+    match exception {
+        Some(name) => {
+            let name = Vec::from_slice(alloc, name)?;
+            summary.answer(&called, octets, latency, Some(name))
+        }
+        None => summary.answer(&called, octets, latency, None),
+    }
 }
 
 impl Teller {
@@ -228,21 +241,32 @@ impl Teller {
         beginning: Option<u64>,
         out: &mut Sink<W>,
     ) -> Result<(), Stop> {
-        let sender = seen.sender;
-        count(&seen, &mut self.asked, &mut self.counts)?;
-        let time = open.stamp(sender).and_then(|stamp| stamp.time);
-        let is_chosen = self.is_chosen(&seen)?;
-        self.asked
-            .take(seen.number, &seen.message.content, time, is_chosen)?;
         let answered = answered_by(&seen);
-        let latency = time_between(answered.and_then(|number| self.asked.time(number)), time);
-        if is_chosen {
-            self.tell_chosen(seen, open, beginning, latency, out)?;
-        }
+        let is_chosen = self.note(&seen, open)?;
+        let latency = self.latency(answered, open.time(seen.sender));
+        let told = match is_chosen {
+            true => self.tell_chosen(seen, open, beginning, latency, out),
+            false => Ok(()),
+        };
         if let Some(number) = answered {
             self.asked.forget(number);
         }
-        Ok(())
+        told
+    }
+
+    /// Counts a message, and keeps it where it waits for an answer. Returns whether it is asked for so far.
+    fn note(&mut self, seen: &Seen, open: &Open) -> Result<bool, Stop> {
+        count(seen, &mut self.asked, &mut self.counts)?;
+        let is_chosen = self.is_chosen(seen)?;
+        let time = open.time(seen.sender);
+        self.asked
+            .take(seen.number, &seen.message.content, time, is_chosen)?;
+        Ok(is_chosen)
+    }
+
+    /// How long after the request that it answers a message came at this time.
+    fn latency(&self, answered: Option<u64>, time: Option<u64>) -> Option<u64> {
+        time_between(self.asked.time(answered?), time)
     }
 
     /// Takes a message that is asked for so far.
@@ -254,36 +278,65 @@ impl Teller {
         latency: Option<u64>,
         out: &mut Sink<W>,
     ) -> Result<(), Stop> {
-        let request = seen.tie.request.unwrap_or(0);
         if let Some(summary) = &mut self.summary {
-            let request = self.asked.request(request);
+            let request = self.asked.request(seen.tie.request.unwrap_or(0));
             return Ok(tally(self.alloc, &seen, request, latency, summary)?);
         }
-        let fate = self.fate_of(&seen, latency);
-        if let Fate::Drop = fate {
-            return Ok(());
+        match self.fate_of(&seen, latency) {
+            Fate::Drop => Ok(()),
+            fate => {
+                let caught = open.caught(seen.sender, beginning, latency);
+                self.say(fate, seen, open, caught.as_ref(), out)
+            }
         }
-        let caught = open.caught(seen.sender, beginning, latency);
+    }
+
+    /// Makes the lines of a message, and does with them what becomes of them.
+    fn say<W: Write>(
+        &mut self,
+        fate: Fate,
+        seen: Seen,
+        open: &Open,
+        caught: Option<&Caught>,
+        out: &mut Sink<W>,
+    ) -> Result<(), Stop> {
+        let values = self.values(&seen)?;
+        let text = self.lines(seen, open, caught, values.as_deref())?;
+        self.put(fate, &text, out)
+    }
+
+    /// What is printed of the values in a message's body.
+    fn values(&mut self, seen: &Seen) -> Result<Option<String>, AllocError> {
+        let request = self.asked.request(seen.tie.request.unwrap_or(0));
+        let content = &seen.message.content;
         let values = values_in(
             self.alloc,
             &self.types,
             self.printer.format,
-            &seen.message.content,
-            self.asked.request(request),
+            content,
+            request,
         )?;
         self.asked.pass_over(seen.number, values.others);
-        let operation = self.asked.operation(request);
+        Ok(values.text)
+    }
+
+    /// The lines of a message.
+    fn lines(
+        &mut self,
+        seen: Seen,
+        open: &Open,
+        caught: Option<&Caught>,
+        values: Option<&str>,
+    ) -> Result<String, AllocError> {
+        let operation = self.asked.operation(seen.tie.request.unwrap_or(0));
         let shown = Shown {
             end: open.end(seen.sender),
             frames: open.frames(seen.sender),
             operation,
-            values: values.text.as_deref(),
+            values,
             seen,
         };
-        let text = self
-            .printer
-            .message(shown, caught.as_ref(), &mut self.objects)?;
-        self.put(fate, &text, out)
+        self.printer.message(shown, caught, &mut self.objects)
     }
 
     /// Counts how a connection ended.

@@ -1,7 +1,7 @@
 //! The connections in what tshark prints, line by line, each handed on as soon as it is its turn.
 
 use crate::block::{Block, Piece};
-use crate::follow::{Line, LineError, line_of};
+use crate::follow::{Line, LineError, are_digits, line_of};
 use crate::notes::{Note, missing_in, note_of};
 use crate::packets::Packets;
 use crate::session::Session;
@@ -57,17 +57,26 @@ const MOST_WAITING: u64 = 67_108_864;
 /// Whether a line is one of a dump of packets: the place of its octets, two spaces, an octet and a space.
 fn is_dump(line: &[u8]) -> bool {
     match line {
-        [a, b, c, d, b' ', b' ', e, f, b' ', ..] => [a, b, c, d, e, f]
-            .iter()
-            .all(|o| o.is_ascii_hexdigit()),
+        [a, b, c, d, b' ', b' ', e, f, b' ', ..] => are_digits(&[*a, *b, *c, *d, *e, *f]),
         _ => false,
     }
 }
 
 /// Whether a line says nothing: it is blank, or a rule of equals signs.
 fn is_silent(line: &[u8]) -> bool {
-    line.iter()
-        .all(|octet| octet.is_ascii_whitespace() || *octet == b'=')
+    for octet in line {
+        if !octet.is_ascii_whitespace() && *octet != b'=' {
+            return false;
+        }
+    }
+    true
+}
+
+/// Where a line ends in octets, if one does.
+fn end_in(octets: &[u8]) -> Option<usize> {
+    octets
+        .iter()
+        .position(|octet| matches!(octet, b'\n' | b'\r'))
 }
 
 /// What a line without octets shows.
@@ -106,6 +115,16 @@ fn hand_on<W: Write>(
     Ok(())
 }
 
+/// Hands it on, and ends it.
+fn hand_on_whole<W: Write>(
+    block: &mut Block,
+    session: &mut Session,
+    out: &mut Sink<W>,
+) -> Result<(), Stop> {
+    hand_on(block, session, out)?;
+    session.end_connection(out)
+}
+
 impl Text {
     /// Before the first line.
     pub fn new(alloc: Global) -> Text {
@@ -136,15 +155,25 @@ impl Text {
             if key.0 > self.next && !is_end {
                 break;
             }
-            let Some((key, mut block)) = self.waiting.pop_first() else {
+            let Some((key, block)) = self.waiting.pop_first() else {
                 break;
             };
-            self.held = self.held.saturating_sub(block.held);
-            hand_on(&mut block, session, out)?;
-            session.end_connection(out)?;
-            self.next = key.0.saturating_add(1);
+            self.hand_on_waiting(key.0, block, session, out)?;
         }
         Ok(())
+    }
+
+    /// Hands on one whose turn it is.
+    fn hand_on_waiting<W: Write>(
+        &mut self,
+        stream: u64,
+        mut block: Block,
+        session: &mut Session,
+        out: &mut Sink<W>,
+    ) -> Result<(), Stop> {
+        self.held = self.held.saturating_sub(block.held);
+        self.next = stream.saturating_add(1);
+        hand_on_whole(&mut block, session, out)
     }
 
     /// Holds a connection until its turn.
@@ -181,20 +210,34 @@ impl Text {
         session: &mut Session,
         out: &mut Sink<W>,
     ) -> Result<(), Stop> {
-        let Some(mut block) = self.block.take() else {
-            return Ok(());
-        };
-        if block.is_absent() {
-            return Err(Stop::NoStream(self.number));
+        match self.block.take() {
+            Some(block) if block.is_absent() => Err(Stop::NoStream(self.number)),
+            Some(block) if block.is_behind(self.next) => self.put_behind(block, session, out),
+            Some(mut block) => self.hand_on_now(&mut block, session, out),
+            None => Ok(()),
         }
-        let stream = block.stream.unwrap_or(0);
-        if block.is_behind(self.next) {
-            self.keep(stream, block)?;
-            return self.make_room(u64::MAX, 0, session, out);
-        }
-        hand_on(&mut block, session, out)?;
-        session.end_connection(out)?;
-        if block.stream.is_some() {
+    }
+
+    /// Holds a connection that has ended, and makes room for it.
+    fn put_behind<W: Write>(
+        &mut self,
+        block: Block,
+        session: &mut Session,
+        out: &mut Sink<W>,
+    ) -> Result<(), Stop> {
+        self.keep(block.stream.unwrap_or(0), block)?;
+        self.make_room(u64::MAX, 0, session, out)
+    }
+
+    /// Hands on a connection that has ended, and those behind it.
+    fn hand_on_now<W: Write>(
+        &mut self,
+        block: &mut Block,
+        session: &mut Session,
+        out: &mut Sink<W>,
+    ) -> Result<(), Stop> {
+        hand_on_whole(block, session, out)?;
+        if let Some(stream) = block.stream {
             self.next = self.next.max(stream.saturating_add(1));
         }
         self.hand_on_next(false, session, out)
@@ -329,13 +372,13 @@ impl Text {
         if self.line.is_empty() {
             return self.take_line(last, session, out);
         }
-        let mut line = Vec::new(self.alloc);
-        mem::swap(&mut line, &mut self.line);
-        line.extend_from_slice(last)?;
-        self.take_line(&line, session, out)?;
+        self.line.extend_from_slice(last)?;
+        let none = Vec::new(self.alloc);
+        let mut line = mem::replace(&mut self.line, none);
+        let came = self.take_line(&line, session, out);
         line.clear();
         self.line = line;
-        Ok(())
+        came
     }
 
     /// Takes octets of the lines.
@@ -347,7 +390,7 @@ impl Text {
     ) -> Result<(), Stop> {
         let mut left = octets;
         for _ in 0..u64::MAX {
-            let Some(place) = left.iter().position(|octet| matches!(octet, b'\n' | b'\r')) else {
+            let Some(place) = end_in(left) else {
                 break;
             };
             let (line, rest) = left.split_at(place);

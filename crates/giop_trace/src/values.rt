@@ -4,7 +4,7 @@ use crate::asked::Request;
 use giop_core::{Content, Reply, ReplyStatus};
 use giop_lines::Format;
 use giop_text::exception_id;
-use giop_types::{Style, Table, Told};
+use giop_types::{Fit, Style, Table, Told};
 use std::alloc::{AllocError, Global};
 
 /// What is printed of the values in a message's body.
@@ -40,15 +40,26 @@ fn arguments_in(
     style: Style,
     request: &giop_core::Request,
 ) -> Result<Values, AllocError> {
-    let (text, others) = match types.arguments(request.operation, &request.body)? {
-        Told::Unknown => (None, 0),
-        Told::Unfit => (unfit(alloc, style)?, 0),
-        Told::Fits(fit) => {
-            let text = fit.call_text(alloc, style, request.operation)?;
-            (Some(text), fit.place)
-        }
-    };
-    Ok(Values { text, others })
+    match types.arguments(request.operation, &request.body)? {
+        Told::Unknown => Ok(Values {
+            text: None,
+            others: 0,
+        }),
+        Told::Unfit => Ok(Values {
+            text: unfit(alloc, style)?,
+            others: 0,
+        }),
+        Told::Fits(fit) => call_of(alloc, style, request.operation, &fit),
+    }
+}
+
+/// What is printed of arguments that fit.
+fn call_of(alloc: Global, style: Style, operation: &[u8], fit: &Fit) -> Result<Values, AllocError> {
+    let text = fit.call_text(alloc, style, operation)?;
+    Ok(Values {
+        text: Some(text),
+        others: fit.place,
+    })
 }
 
 /// What is printed of the results of a reply to a request.
@@ -89,6 +100,21 @@ fn exception_in(
     }
 }
 
+/// What is printed of what a reply to a request has.
+fn outcome_in(
+    alloc: Global,
+    types: &Table,
+    style: Style,
+    reply: &Reply,
+    request: Option<&Request>,
+) -> Result<Option<String>, AllocError> {
+    match ReplyStatus::from_number(reply.status) {
+        Some(ReplyStatus::NoException) => results_in(alloc, types, style, reply, request),
+        Some(ReplyStatus::UserException) => exception_in(alloc, types, style, reply),
+        _ => Ok(None),
+    }
+}
+
 /// What is printed of the values in a message's body, which answers this request, if it answers one.
 pub(crate) fn values_in(
     alloc: Global,
@@ -98,14 +124,15 @@ pub(crate) fn values_in(
     request: Option<&Request>,
 ) -> Result<Values, AllocError> {
     let style = style_of(format);
-    let text = match content {
-        Content::Request(request) => return arguments_in(alloc, types, style, request),
-        Content::Reply(reply) => match ReplyStatus::from_number(reply.status) {
-            Some(ReplyStatus::NoException) => results_in(alloc, types, style, reply, request)?,
-            Some(ReplyStatus::UserException) => exception_in(alloc, types, style, reply)?,
-            _ => None,
-        },
-        _ => None,
-    };
-    Ok(Values { text, others: 0 })
+    match content {
+        Content::Request(request) => arguments_in(alloc, types, style, request),
+        Content::Reply(reply) => Ok(Values {
+            text: outcome_in(alloc, types, style, reply, request)?,
+            others: 0,
+        }),
+        _ => Ok(Values {
+            text: None,
+            others: 0,
+        }),
+    }
 }

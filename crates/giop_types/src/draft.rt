@@ -8,7 +8,7 @@ use crate::signature::Signature;
 use std::alloc::Global;
 
 /// An operation, as its lines come.
-#[derive(Debug, Drop)]
+#[derive(Drop)]
 pub(crate) struct Draft {
     alloc: Global,
     pub name: Vec<u8>,
@@ -46,7 +46,7 @@ impl Draft {
 }
 
 /// What was begun.
-#[derive(Debug, Drop)]
+#[derive(Drop)]
 pub(crate) enum Begun {
     Nothing,
     Struct(Fields),

@@ -4,7 +4,7 @@ use std::alloc::{AllocError, AllocFailed};
 use thiserror::Error;
 
 /// What is wrong with a line of a table.
-#[derive(Clone, Copy, Debug, PartialEq, Eq, Error)]
+#[derive(Clone, Copy, Debug, Error)]
 pub enum Why {
     /// It is the first, and not the head of a table of this version.
     #[error("no table of types: it begins with `giop-types 1`")]
@@ -45,7 +45,7 @@ pub enum Why {
 }
 
 /// Why a table of types is not read.
-#[derive(Clone, Copy, Debug, PartialEq, Eq, Error)]
+#[derive(Clone, Copy, Debug, Error)]
 pub enum TypesError {
     /// An allocation failed.
     #[error("memory")]
@@ -56,7 +56,7 @@ pub enum TypesError {
 }
 
 /// Why a line is not taken.
-#[derive(Clone, Copy, Debug, PartialEq, Eq)]
+#[derive(Clone, Copy)]
 pub(crate) enum Refusal {
     Memory,
     Bad(Why),

@@ -7,7 +7,7 @@ use crate::typed::{Size, Typed};
 use std::alloc::Global;
 
 /// A struct or an exception of this repository id.
-#[derive(Debug, Drop)]
+#[derive(Drop)]
 pub(crate) struct Fields {
     pub id: String,
     pub members: Vec<Member>,
@@ -49,7 +49,7 @@ impl Fields {
 }
 
 /// An enumeration of this repository id.
-#[derive(Debug, Drop)]
+#[derive(Drop)]
 pub(crate) struct Names {
     pub id: String,
     pub names: Vec<String>,
@@ -80,7 +80,7 @@ impl Names {
 }
 
 /// A union of this repository id.
-#[derive(Debug, Drop)]
+#[derive(Drop)]
 pub(crate) struct Cases {
     alloc: Global,
     pub id: String,

@@ -7,7 +7,7 @@ use cdr_core::Val;
 use std::alloc::{AllocError, Global};
 
 /// A body as types have it.
-#[derive(Debug, Drop)]
+#[derive(Drop)]
 pub struct Fit<'t> {
     /// How many other types were tried before these.
     pub place: usize,

@@ -6,14 +6,14 @@ ghost use Rattle.giop_types.specs.Tables.{side_of};
 use crate::signature::Signature;
 
 /// An operation of an interface: what the bodies of its requests and of its replies have.
-#[derive(Debug, Drop)]
+#[derive(Drop)]
 pub(crate) struct Operation {
     pub arguments: Signature,
     pub results: Signature,
 }
 
 /// A side of an operation.
-#[derive(Clone, Copy, Debug, PartialEq, Eq)]
+#[derive(Clone, Copy)]
 pub(crate) enum Part {
     Arguments,
     Results,

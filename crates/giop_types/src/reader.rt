@@ -6,7 +6,7 @@ use crate::fields::{Cases, Fields, Names};
 use crate::shape::{Member, Shape};
 use crate::table::Table;
 use crate::typed::{Declared, MOST_PARTS, Typed, label_in, typed_in};
-use std::alloc::Global;
+use std::alloc::{AllocError, Global};
 use std::collections::BTreeMap;
 use std::mem;
 
@@ -47,10 +47,12 @@ pub(crate) struct Reader {
 
 /// Whether a word is a name of IDL.
 fn is_name(word: &str) -> bool {
+    for octet in word.bytes() {
+        if !octet.is_ascii_alphanumeric() && octet != b'_' {
+            return false;
+        }
+    }
     !word.is_empty()
-        && word
-            .bytes()
-            .all(|octet| octet.is_ascii_alphanumeric() || octet == b'_')
 }
 
 /// The name that a word is.
@@ -61,15 +63,60 @@ fn name_in(alloc: Global, word: &str) -> Result<String, Refusal> {
     Ok(String::from_str(alloc, word)?)
 }
 
+/// The member of an exception's body that is its repository id.
+fn id_member(alloc: Global) -> Result<Member, AllocError> {
+    Ok(Member {
+        name: String::from_str(alloc, "-")?,
+        shape: Shape::Text(u32::MAX),
+    })
+}
+
+/// Appends members.
+fn add_members(all: &mut Vec<Member>, members: Vec<Member>) -> Result<(), AllocError> {
+    for member in members {
+        all.push(member)?;
+    }
+    Ok(())
+}
+
+/// The members of an exception's body: its repository id, and these.
+fn raised_members(alloc: Global, members: Vec<Member>) -> Result<Vec<Member>, AllocError> {
+    let mut all = Vec::new(alloc);
+    all.push(id_member(alloc)?)?;
+    add_members(&mut all, members)?;
+    Ok(all)
+}
+
+/// Whether octets are of ASCII, and print.
+fn is_plain(octets: &[u8]) -> bool {
+    for octet in octets {
+        if !matches!(octet, 0x20..=0x7e) {
+            return false;
+        }
+    }
+    true
+}
+
 /// A line as text, if it is of ASCII that prints.
 fn text_in(line: &[u8]) -> Result<&str, Refusal> {
-    if !line.iter().all(|octet| matches!(octet, 0x20..=0x7e)) {
-        return Err(Refusal::Bad(Why::Characters));
-    }
     match str::from_utf8(line) {
-        Ok(text) => Ok(text),
-        Err(_) => Err(Refusal::Bad(Why::Characters)),
+        Ok(text) if is_plain(line) => Ok(text),
+        _ => Err(Refusal::Bad(Why::Characters)),
     }
+}
+
+/// What came of the line of a number.
+fn told(line: u64, taken: Result<(), Refusal>) -> Result<(), TypesError> {
+    match taken {
+        Ok(()) => Ok(()),
+        Err(refusal) => Err(refusal.at(line)),
+    }
+}
+
+/// Appends a member.
+fn add_member(members: &mut Vec<Member>, name: String, shape: Shape) -> Result<(), Refusal> {
+    members.push(Member { name, shape })?;
+    Ok(())
 }
 
 /// The first of words, and the others.
@@ -96,10 +143,10 @@ impl Reader {
     fn typed(&mut self, words: &str) -> Result<Typed, Refusal> {
         let typed = typed_in(self.alloc, &self.declared, words)?;
         self.parts = self.parts.saturating_add(typed.size.parts);
-        if self.parts > MOST_PARTS {
-            return Err(Refusal::Bad(Why::Large));
+        match self.parts > MOST_PARTS {
+            true => Err(Refusal::Bad(Why::Large)),
+            false => Ok(typed),
         }
-        Ok(typed)
     }
 
     /// Keeps a type by its repository id.
@@ -114,19 +161,23 @@ impl Reader {
 
     /// Keeps an exception by its repository id, with which its body begins.
     fn declare_exception(&mut self, fields: Fields) -> Result<(), Refusal> {
-        let mut members = Vec::with_capacity(self.alloc, 1)?;
-        members.push(Member {
-            name: String::from_str(self.alloc, "-")?,
-            shape: Shape::Text(u32::MAX),
-        })?;
-        for member in fields.members {
-            members.push(member)?;
-        }
+        let members = raised_members(self.alloc, fields.members)?;
+        self.add_exception(&fields.id, members)
+    }
+
+    /// Keeps an exception of these members, of which its repository id is the first.
+    fn add_exception(&mut self, id: &str, members: Vec<Member>) -> Result<(), Refusal> {
         let signature = signature(self.alloc, members)?;
-        match self.table.add_exception(fields.id.as_bytes(), signature)? {
+        match self.table.add_exception(id.as_bytes(), signature)? {
             true => Ok(()),
             false => Err(Refusal::Bad(Why::Twice)),
         }
+    }
+
+    /// Keeps an operation.
+    fn add_operation(&mut self, draft: Draft) -> Result<(), Refusal> {
+        let (name, operation) = draft.end()?;
+        Ok(self.table.add(name, operation)?)
     }
 
     /// Ends what was begun.
@@ -137,10 +188,7 @@ impl Reader {
             Begun::Exception(fields) => self.declare_exception(fields),
             Begun::Enum(names) => self.declare(names.end()?),
             Begun::Union(cases) => self.declare(cases.end()?),
-            Begun::Operation(draft) => {
-                let (name, operation) = draft.end()?;
-                Ok(self.table.add(name, operation)?)
-            }
+            Begun::Operation(draft) => self.add_operation(draft),
         }
     }
 
@@ -183,27 +231,27 @@ impl Reader {
     fn take_member(&mut self, word: &str, words: &str) -> Result<(), Refusal> {
         let (name, words) = first_of(words);
         let typed = self.typed(words)?;
+        self.take_typed(word, name, typed)
+    }
+
+    /// Takes one of this type.
+    fn take_typed(&mut self, word: &str, name: &str, typed: Typed) -> Result<(), Refusal> {
         let name = match (word, name) {
             ("out", "-") => String::from_str(self.alloc, name)?,
             _ => name_in(self.alloc, name)?,
         };
+        self.take_named(word, name, typed)
+    }
+
+    /// Takes one of this name and type.
+    fn take_named(&mut self, word: &str, name: String, typed: Typed) -> Result<(), Refusal> {
         match (word, &mut self.begun) {
             ("member", Begun::Struct(fields) | Begun::Exception(fields)) => {
                 fields.take(name, typed)
             }
             ("default", Begun::Union(cases)) => cases.take(None, name, typed),
-            ("in", Begun::Operation(draft)) => Ok(
-                draft.arguments.push(Member {
-                    name,
-                    shape: typed.shape,
-                })?,
-            ),
-            ("out", Begun::Operation(draft)) => Ok(
-                draft.results.push(Member {
-                    name,
-                    shape: typed.shape,
-                })?,
-            ),
+            ("in", Begun::Operation(draft)) => add_member(&mut draft.arguments, name, typed.shape),
+            ("out", Begun::Operation(draft)) => add_member(&mut draft.results, name, typed.shape),
             _ => Err(Refusal::Bad(Why::Place)),
         }
     }
@@ -214,6 +262,11 @@ impl Reader {
         let (name, words) = first_of(words);
         let label = label_in(label)?;
         let typed = self.typed(words)?;
+        self.take_labelled(label, name, typed)
+    }
+
+    /// Takes one of this type at a label.
+    fn take_labelled(&mut self, label: i128, name: &str, typed: Typed) -> Result<(), Refusal> {
         let name = name_in(self.alloc, name)?;
         match &mut self.begun {
             Begun::Union(cases) => cases.take(Some(label), name, typed),
@@ -259,52 +312,73 @@ impl Reader {
     /// Takes a line behind the first.
     fn take(&mut self, line: &[u8]) -> Result<(), TypesError> {
         self.line = self.line.saturating_add(1);
-        let line = text_in(line).map_err(|refusal| refusal.at(self.line))?;
+        match text_in(line) {
+            Ok(line) => self.take_text_line(line),
+            Err(refusal) => Err(refusal.at(self.line)),
+        }
+    }
+
+    /// Takes such a line as text.
+    fn take_text_line(&mut self, line: &str) -> Result<(), TypesError> {
         if line.is_empty() || line.starts_with('#') {
             return Ok(());
         }
         let (word, words) = first_of(line);
-        if begins(word) {
-            self.finish().map_err(|refusal| refusal.at(self.at))?;
+        if !begins(word) {
+            let taken = self.take_part(line);
+            return told(self.line, taken);
         }
-        let taken = match begins(word) {
-            true => self.begin(word, words),
-            false => self.take_part(line),
-        };
-        taken.map_err(|refusal| refusal.at(self.line))
+        self.end()?;
+        let taken = self.begin(word, words);
+        told(self.line, taken)
+    }
+
+    /// Ends what was begun.
+    fn end(&mut self) -> Result<(), TypesError> {
+        let taken = self.finish();
+        told(self.at, taken)
     }
 
     /// Ends what was begun, and goes on with the first line of another text.
     fn begin_anew(&mut self) -> Result<(), TypesError> {
-        self.finish().map_err(|refusal| refusal.at(self.at))?;
+        self.end()?;
         self.has_interface = false;
         self.line = 0;
         Ok(())
     }
 
-    /// Takes the lines of a text behind its first, and returns the table.
-    fn take_all(mut self, text: &[u8]) -> Result<Table, TypesError> {
+    /// Takes the lines of a text behind its first.
+    fn take_all(&mut self, text: &[u8]) -> Result<(), TypesError> {
         for line in text.split(|octet| *octet == b'\n') {
             self.take(line)?;
         }
-        self.finish().map_err(|refusal| refusal.at(self.at))?;
-        Ok(self.table)
+        self.end()
+    }
+
+    /// Takes the operations of all objects.
+    fn take_usual(&mut self) -> Result<(), TypesError> {
+        for line in USUAL {
+            self.take(line.as_bytes())?;
+        }
+        self.begin_anew()
+    }
+
+    /// Takes those, and a text.
+    fn take_text(&mut self, text: &[u8]) -> Result<(), TypesError> {
+        self.take_usual()?;
+        match text.strip_prefix(HEAD) {
+            Some(lines) if matches!(lines, [] | [b'\n', ..]) => self.take_all(lines),
+            _ => Err(TypesError::Line(1, Why::Head)),
+        }
     }
 }
 
 /// The table in a text.
 pub(crate) fn table_in(alloc: Global, text: &[u8]) -> Result<Table, TypesError> {
     let mut reader = Reader::new(alloc);
-    for line in USUAL {
-        reader.take(line.as_bytes())?;
-    }
-    reader.begin_anew()?;
-    let Some(lines) = text.strip_prefix(HEAD) else {
-        return Err(TypesError::Line(1, Why::Head));
-    };
-    match lines {
-        [] | [b'\n', ..] => reader.take_all(lines),
-        _ => Err(TypesError::Line(1, Why::Head)),
+    match reader.take_text(text) {
+        Ok(()) => Ok(reader.table),
+        Err(error) => Err(error),
     }
 }
 

@@ -1,7 +1,7 @@
 //! The types of a table, with the names of what they hold.
 
 /// A type of IDL that is not made of others.
-#[derive(Clone, Copy, Debug, PartialEq, Eq)]
+#[derive(Clone, Copy)]
 pub enum Plain {
     Boolean,
     Char,
@@ -18,7 +18,7 @@ pub enum Plain {
 
 /// A type of IDL.
 #[cycle(shapes)]
-#[derive(Debug, Drop)]
+#[derive(Drop)]
 pub enum Shape {
     Plain(Plain),
     /// A string of at most so many octets.
@@ -37,7 +37,7 @@ pub enum Shape {
 
 /// A member of a struct or a union, or a parameter.
 #[cycle(shapes)]
-#[derive(Debug, Drop)]
+#[derive(Drop)]
 pub struct Member {
     pub name: String,
     pub shape: Shape,
@@ -45,7 +45,7 @@ pub struct Member {
 
 /// The member of a union at a discriminator.
 #[cycle(shapes)]
-#[derive(Debug, Drop)]
+#[derive(Drop)]
 pub struct Case {
     pub label: i128,
     pub member: Member,

@@ -12,7 +12,7 @@ use cdr_core::{CdrError, Order, Ty, Val, are_valid, read_list};
 use std::alloc::{AllocError, Global};
 
 /// Members that stand one after another in a body: their names and types.
-#[derive(Debug, Drop)]
+#[derive(Drop)]
 pub struct Signature {
     members: Vec<Member>,
     forms: Vec<Ty>,

@@ -1,7 +1,7 @@
 //! In which form values are printed.
 
 /// In which form values are printed.
-#[derive(Clone, Copy, Debug, PartialEq, Eq)]
+#[derive(Clone, Copy)]
 pub enum Style {
     /// As a person reads them.
     Words,

@@ -14,7 +14,7 @@ use std::alloc::{AllocError, Global};
 use std::collections::BTreeMap;
 
 /// What a table tells of a body.
-#[derive(Debug, Drop)]
+#[derive(Drop)]
 pub enum Told<'t> {
     /// It has no types for it.
     Unknown,
@@ -25,7 +25,7 @@ pub enum Told<'t> {
 }
 
 /// A table of types: those of operations by their names, and of exceptions by their repository ids.
-#[derive(Debug, Drop)]
+#[derive(Drop)]
 pub struct Table {
     alloc: Global,
     operations: BTreeMap<Vec<u8>, Vec<Operation>>,

@@ -14,14 +14,14 @@ const MOST_DEEP: u32 = 64;
 pub(crate) const MOST_PARTS: u64 = 262_144;
 
 /// A type, how many parts it has, and how deep they are nested.
-#[derive(Debug, Drop)]
+#[derive(Drop)]
 pub(crate) struct Typed {
     pub shape: Shape,
     pub size: Size,
 }
 
 /// How many parts a type has, and how deep they are nested.
-#[derive(Clone, Copy, Debug, PartialEq, Eq)]
+#[derive(Clone, Copy)]
 pub(crate) struct Size {
     pub parts: u64,
     pub depth: u32,
@@ -54,9 +54,19 @@ impl Size {
 /// The types that were declared, by their repository ids.
 pub(crate) type Declared = BTreeMap<String, Typed>;
 
+/// Whether a word has decimal digits alone.
+fn are_digits(word: &str) -> bool {
+    for digit in word.bytes() {
+        if !digit.is_ascii_digit() {
+            return false;
+        }
+    }
+    true
+}
+
 /// A number in decimal digits that is not 0.
 fn number_in(word: &str) -> Result<u32, Refusal> {
-    if !word.bytes().all(|digit| digit.is_ascii_digit()) {
+    if !are_digits(word) {
         return Err(Refusal::Bad(Why::Number));
     }
     match word.parse::<u32>() {
@@ -68,10 +78,10 @@ fn number_in(word: &str) -> Result<u32, Refusal> {
 /// A label in decimal digits.
 pub(crate) fn label_in(word: &str) -> Result<i128, Refusal> {
     let digits = word.strip_prefix('-').unwrap_or(word);
-    if !digits.bytes().all(|digit| digit.is_ascii_digit()) {
-        return Err(Refusal::Bad(Why::Number));
+    match word.parse::<i128>() {
+        Ok(label) if are_digits(digits) => Ok(label),
+        _ => Err(Refusal::Bad(Why::Number)),
     }
-    word.parse::<i128>().map_err(|_| Refusal::Bad(Why::Number))
 }
 
 /// The bound behind a word, if one stands there: `None` where the word is another.
