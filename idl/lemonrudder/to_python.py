@@ -318,8 +318,8 @@ def package(name: str, module: str, lines: List[str]) -> Tuple[str, str]:
         before = [line for line in text.splitlines() if line.startswith("from ") and not line.startswith(mine)]
     lines = list(dict.fromkeys(before + lines))
     # (its last word is the name in the package)
-    names = dict.fromkeys(line.split()[-1] for line in lines)
-    return path, "\n".join([PACKAGE + "\n".join(lines), "", "__all__ = [", *(f'    "{name}",' for name in names), "]", ""])
+    names = [f'    "{name}",' for name in dict.fromkeys(line.split()[-1] for line in lines)]
+    return path, "\n".join([PACKAGE + "\n".join(lines), *(["", "__all__ = [", *names, "]"] if names else []), ""])
 
 
 def packages_of(unit: model.Unit) -> Dict[str, str]:
