@@ -35,7 +35,8 @@ OF_LIBRARY = [
     "tests.relay.guard_test", "tests.relay.retry_test", "tests.relay.orbs_test", "tests.relay.hostile_test",
     "tests.relay.operation_test", "tests.relay.guards_test",
     "tests.embed.idl_test", "tests.embed.idl_c_test", "tests.embed.idl_rust_test", "tests.embed.idl_stubs_test",
-    "tests.embed.idl_files_test", "tests.embed.objects_test", "tests.embed.packages_test",
+    "tests.embed.idl_files_test", "tests.embed.objects_test", "tests.embed.naming_test",
+    "tests.embed.packages_test",
     "tests.relay.store_test",
 ]
 

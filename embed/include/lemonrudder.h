@@ -549,7 +549,8 @@ LR_API int64_t lr_server_tick(lr_server *server, uint64_t moment);
 
 /* Exchanges what the server has on offer and a catalogue: so objects are added and taken away while it serves. What is
  * kept stays, and is what repeats get. A parked request is answered by an outcome of its operation as that is on offer
- * then, or by a system exception. LR_E_EMPTY, LR_E_ASKING. */
+ * then, by lr_server_answer_raw, or by a system exception: so keep an object that is to go until nothing of it is parked
+ * (lr_server_wanted), and refuse who asks for it meanwhile by LR_EX_OBJECT_NOT_EXIST. LR_E_EMPTY, LR_E_ASKING. */
 LR_API int64_t lr_server_swap(lr_server *server, lr_catalogue *catalogue);
 
 /* ---- a client that sends its calls again ---- */

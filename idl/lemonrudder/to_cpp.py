@@ -268,10 +268,17 @@ def poa(scope: Tuple[str, ...]) -> str:
     return "::" + "::".join([f"POA_{first}", *map(identifier, rest)])
 
 
-def servant(one: model.Interface) -> List[str]:
+def names_of_stub(one: model.Interface, unit: model.Unit) -> List[str]:
+    """The names in the scope of an interface: in a servant its own name is that of the servant's class."""
+    lines = [f"using _ops = {path(one.scope)}::_ops;"]
+    return lines + [f"using {identifier(other.name)} = {path(other.scope)};" for other in unit.whole
+                    if other.scope[:-1] == one.scope and not isinstance(other, model.Const)]
+
+
+def servant(one: model.Interface, unit: model.Unit) -> List[str]:
     """The servant of an interface, and how it is put on offer."""
     name = poa(one.scope).rpartition("::")[2]
-    lines: List[str] = []
+    lines = names_of_stub(one, unit)
     for operation in one.operations:
         asked = f"{IDL}Asking<{path(one.scope)}::_ops::{identifier(operation.name)}>"
         asking = f"{LR}Asked& _call" if operation.is_octets else f"{asked}& _call"
@@ -374,6 +381,6 @@ def files_of(unit: model.Unit) -> Dict[str, str]:
             continue
         lines += within(one.scope[:-1], "", body_of(one, unit, False))
         if isinstance(one, model.Interface):
-            lines += within(one.scope[:-1], "POA_", servant(one))
+            lines += within(one.scope[:-1], "POA_", servant(one, unit))
     with open(os.path.join(os.path.dirname(__file__), "lemonrudder_idl.hpp"), encoding="ascii") as file:
         return {made: "\n".join([*lines, f"#endif  // {guard}", ""]), "lemonrudder_idl.hpp": file.read()}

@@ -156,7 +156,7 @@ class Packages(unittest.TestCase):
         """What omniidl makes of the bank by some words, in a folder; the programs that stand on it are beside that."""
         made_in = os.path.join(self.folder, "made")
         os.makedirs(made_in, exist_ok=True)
-        for name in ("bank.idl", "loop.c", "loop.h", "idl/bank.c", "idl/bank.cpp", "idl/bank.py"):
+        for name in ("bank.idl", "loop.c", "loop.h", "loop_remove.h", "idl/bank.c", "idl/bank.cpp", "idl/bank.py"):
             shutil.copy(path(f"examples/{name}"), self.folder)
         run([*omniidl, "-blemonrudder", *(f"-Wb{one}" for one in languages), f"-C{made_in}", f"{self.folder}/bank.idl"],
             cwd=self.folder, env={**outside(), **environment})

@@ -611,7 +611,7 @@ impl Server {
 
     /// Exchanges what it has on offer and a catalogue: so objects are added and taken away while it
     /// serves. What is kept stays. A parked request is answered by an outcome of its operation as
-    /// that is on offer then, or by a system exception.
+    /// that is on offer then, or by a system exception: [`remove`](Server::remove) waits for it.
     ///
     /// # Errors
     ///

@@ -20,7 +20,7 @@ use giop_core::{
 };
 use std::alloc::Global;
 
-/// How many statuses of a LocateReply have no body, from 0 on: the object is unknown, or here (CORBA 3.3 Part 2, 9.4.6.2).
+/// How many statuses of a LocateReply have no body, from 0 on: the object is unknown, or here (GIOP 9.4.6).
 const WITHOUT_BODY: u32 = 2;
 
 /// What a Request says, but its version and order.
