@@ -8,6 +8,7 @@ from __future__ import annotations
 import asyncio
 import glob
 import os
+import random
 import re
 import subprocess
 import sys
@@ -32,7 +33,7 @@ TAKEN = 61
 # .. what declares all that another one declares
 TWICE = "Naming"
 # how many random files a seed stands for
-COUNT = 8
+COUNT = 4
 OF_C = ["-std=c11", "-Wall", "-Wextra", "-Wpedantic", "-Wshadow", "-Wconversion"]
 OF_CPP = ["-std=c++17", "-Wall", "-Wextra"]
 OF_HEADERS = ["-std=c++11", "-Wall", "-Wextra", "-Wpedantic"]
@@ -126,10 +127,14 @@ class OmniOrb(unittest.TestCase):
         """All sources in C compile."""
         self.judge.compiles("gcc", ".c", OF_C, TWICE)
 
-    @base.each(lambda: [(name, name) for name in ("g++", "clang++")])
-    def test_cpp(self, compiler: str) -> None:
-        """All headers in C++ compile."""
-        self.judge.compiles(compiler, ".hpp", OF_CPP, TWICE)
+    @base.each_seed(1, 1)
+    def test_cpp(self, seed: int) -> None:
+        """All headers in C++ compile, by either compiler a half of them, which the seed says."""
+        names = [name for name in self.judge.names(".hpp", TWICE) if name.endswith("_idl.hpp")]
+        random.Random(seed).shuffle(names)
+        half = {name[:-len("_idl.hpp")] for name in names[:len(names) // 2]}
+        self.judge.compiles("g++", ".hpp", OF_CPP, TWICE, *half)
+        self.judge.compiles("clang++", ".hpp", OF_CPP, TWICE, *{name[:-len("_idl.hpp")] for name in names} - half)
 
     def test_python(self) -> None:
         """All modules of Python are imported, and have their types."""

@@ -159,7 +159,8 @@ class Maker:
 
     def tree(self, scope: str) -> None:
         """A struct and a union that hold themselves, one directly and one by a part of it."""
-        struct, some, union, two, inner = (self.word(scope) for _ in range(5))
+        struct, some, union, two = (self.word(scope) for _ in range(4))
+        inner = self.word(f"{scope}::{struct}")
         switch, member = self.dice.choice(["long", "char"]), self.word(f"{scope}::{struct}")
         label = "1" if switch == "long" else "'x'"
         type = self.type(self.dice.random() < 0.9)
@@ -224,7 +225,7 @@ class Maker:
 
     def inner_struct(self, scope: str) -> None:
         name = self.word("interfaces")
-        self.lines.append(f"struct {name} {{ {self.type()} {self.word('inner of ' + name)}; }};")
+        self.lines.append(f"struct {name} {{ {self.type()} {self.word(f'{scope}::{name}')}; }};")
         self.types[self.named(scope, name)] = True
 
     def inner_enum(self, scope: str) -> None:
