@@ -28,8 +28,8 @@ _idl.made_for({version})
 # what each exception of Python has, each class, and each number
 EXCEPTIONS = ("args", "add_note", "with_traceback")
 CLASSES = ("mro",)
-NUMBERS = ("as_integer_ratio", "bit_count", "bit_length", "conjugate", "denominator", "from_bytes", "imag", "is_integer",
-           "name", "numerator", "real", "to_bytes", "value", *CLASSES)
+NUMBERS = ("as_integer_ratio", "bit_count", "bit_length", "conjugate", "denominator", "from_bytes", "imag",
+           "is_integer", "name", "numerator", "real", "to_bytes", "value", *CLASSES)
 IGNORED = "  # type: ignore[no-any-return]"
 PACKAGE = '"""Made by omniidl -blemonrudder -Wbpython. Not to be changed by hand."""\n'
 

@@ -9,11 +9,11 @@ from typing import Dict, List, Set
 from tests.embed import idl_c_test, idl_rust_test
 
 # of Python, and of what is made in each language
-OF_PYTHON = """int str bytes float list tuple dict object type property super print abc dataclasses typing builtins mro args
-add_note with_traceback name value real imag numerator denominator conjugate bit_length to_bytes from_bytes self cls
-register fields items keys values result body idl lemonrudder enum""".split()
-OF_CPP = """std errno assert call caller key in out value label one two done loop asking SIGTERM POLLIN SO_ERROR HUGE_VAL
-st_mtime ops into from new clone reader writer""".split()
+OF_PYTHON = """int str bytes float list tuple dict object type property super print abc dataclasses typing builtins mro
+args add_note with_traceback name value real imag numerator denominator conjugate bit_length to_bytes from_bytes self
+cls register fields items keys values result body idl lemonrudder enum""".split()
+OF_CPP = """std errno assert call caller key in out value label one two done loop asking SIGTERM POLLIN SO_ERROR
+HUGE_VAL st_mtime ops into from new clone reader writer""".split()
 WORDS = sorted({word.lower(): word for word in (
     *keyword.kwlist, *OF_PYTHON, *OF_CPP, *idl_c_test.WORDS, *idl_rust_test.WORDS)}.values())
 BASICS = ["boolean", "char", "octet", "short", "unsigned short", "long", "unsigned long", "long long",
@@ -23,7 +23,8 @@ ODD = ["any", "wchar", "wstring", "wstring<4>", "Money", "long double", "CORBA::
 SWITCHES = ["short", "unsigned short", "long", "unsigned long", "long long", "unsigned long long", "boolean", "char"]
 CONSTANTS = {"boolean": "TRUE", "char": "'c'", "octet": "255", "short": "-32768", "unsigned short": "65535",
              "long": "-2147483647", "unsigned long": "4294967295", "long long": "-9223372036854775807",
-             "unsigned long long": "18446744073709551615", "float": "1.5", "double": "-2.25e300", "string": '"a\\"?\\n"'}
+             "unsigned long long": "18446744073709551615", "float": "1.5", "double": "-2.25e300",
+             "string": '"a\\"?\\n"'}
 
 
 def folded(name: str) -> str:
@@ -248,7 +249,8 @@ class Maker:
         before = len(self.interfaces), set(self.types), set(self.exceptions)
         self.lines += [f"#ifndef FILE_{self.number}", f"#define FILE_{self.number}",
                        *(f'#include "{file.name}.idl"' for file in self.included)]
-        self.lines += ["#include <orb.idl>", f"module odd_{self.number} {{", "native Handle; valuetype Boxed wstring; typedef fixed<5, 2> Money;",
+        self.lines += ["#include <orb.idl>", f"module odd_{self.number} {{",
+                       "native Handle; valuetype Boxed wstring; typedef fixed<5, 2> Money;",
                        "valuetype Own { public long x; }; local interface Nearby { enum Inner { a, b }; void f(); };",
                        "abstract interface Vague { void g(in Handle x); long h(); };", "};"]
         self.declare("", self.dice.randint(0, 4))
