@@ -27,8 +27,9 @@ HINT = "it is left out; by -Wbpartial an operation with it is a raw one, which i
 VERSION = (0, 2, 0)
 SERIES = 2 if VERSION[0] == 0 else 1
 LEAST = VERSION[0] << 16 | VERSION[1] << 8 | VERSION[2]
+BITS = 8 * (3 - SERIES)
 # .. in C and C++: whether it is that of the headers
-IS_VERSION = f"""#if LR_VERSION_NUMBER < {LEAST} || LR_VERSION_NUMBER >> {8 * (3 - SERIES)} != {LEAST >> 8 * (3 - SERIES)}
+IS_VERSION = f"""#if LR_VERSION_NUMBER < {LEAST} || LR_VERSION_NUMBER >> {BITS} != {LEAST >> BITS}
 #error "made for lemonrudder {'.'.join(map(str, VERSION))}: make it anew by omniidl"
 #endif"""
 # the sizes of what the library's types can spell
@@ -415,7 +416,8 @@ class Reading:
         for name in one.declarators() if isinstance(one, idlast.Typedef) else [one]:
             if hasattr(name, "scopedName"):
                 self.lose(tuple(name.scopedName()), str(fault))
-        if self.is_partial and isinstance(one, (idlast.Interface, idlast.Value, idlast.ValueAbs)) and one.declarations():
+        is_scope = isinstance(one, (idlast.Interface, idlast.Value, idlast.ValueAbs))
+        if self.is_partial and is_scope and one.declarations():
             self.scope(one)
             self.read(one.declarations())
 

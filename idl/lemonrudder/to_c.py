@@ -13,7 +13,8 @@ from .macros import MACROS
 
 KEYWORDS = to_cpp.KEYWORDS | MACROS | {"restrict", "typeof", "typeof_unqual"}
 # what the headers declare by themselves that a declaration of no module could be called
-TAKEN = to_cpp.NAMESPACES | set("""basename bcmp bcopy bzero ffs ffsl ffsll index locale_t max_align_t memccpy memchr memcmp memcpy memfrob
+TAKEN = to_cpp.NAMESPACES | set("""basename bcmp bcopy bzero ffs ffsl ffsll index locale_t max_align_t memccpy memchr
+memcmp memcpy memfrob
 memmem memmove mempcpy memrchr memset ptrdiff_t rawmemchr rindex self size_t stpcpy stpncpy strcasecmp strcasestr
 strcat strchr strchrnul strcmp strcoll strcpy strcspn strdup strerror strfry strlen strncasecmp strncat strncmp
 strncpy strndup strnlen strpbrk strrchr strsep strsignal strspn strstr strtok strverscmp strxfrm swab

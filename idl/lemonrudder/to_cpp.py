@@ -268,10 +268,17 @@ def poa(scope: Tuple[str, ...]) -> str:
     return "::" + "::".join([f"POA_{first}", *map(identifier, rest)])
 
 
-def servant(one: model.Interface) -> List[str]:
+def names_of_stub(one: model.Interface, unit: model.Unit) -> List[str]:
+    """The names in the scope of an interface: in a servant its own name is that of the servant's class."""
+    lines = [f"using _ops = {path(one.scope)}::_ops;"]
+    return lines + [f"using {identifier(other.name)} = {path(other.scope)};" for other in unit.whole
+                    if other.scope[:-1] == one.scope and not isinstance(other, model.Const)]
+
+
+def servant(one: model.Interface, unit: model.Unit) -> List[str]:
     """The servant of an interface, and how it is put on offer."""
     name = poa(one.scope).rpartition("::")[2]
-    lines: List[str] = []
+    lines = names_of_stub(one, unit)
     for operation in one.operations:
         asked = f"{IDL}Asking<{path(one.scope)}::_ops::{identifier(operation.name)}>"
         asking = f"{LR}Asked& _call" if operation.is_octets else f"{asked}& _call"
@@ -280,9 +287,11 @@ def servant(one: model.Interface) -> List[str]:
     lines += ["", "/* Puts it on offer under a key, also while the loop serves; loop.remove(key) takes it away. */",
               f"{LR}Done _offer({LR}Loop& loop, {LR}Octets key) {{", f"  {LR}Done done = loop.object(key, {{{ids}}});",
               f"  return done ? _offer_operations(loop, key, {IDL}always(this)) : done;", "}",
-              "/* Puts those on offer whose keys begin so, before the loop is opened: the servant of a key, or null where",
-              " * there is no such object. */", f"static {LR}Done _offer_family({LR}Loop& loop, {LR}Octets prefix,",
-              f"    std::function<{name}*({LR}Octets)> servant_of) {{", f"  {LR}Done done = loop.family(prefix, {{{ids}}},",
+              "/* Puts those on offer whose keys begin so, before the loop is opened: the servant of a key, or null",
+              " * where there is no such object. */",
+              f"static {LR}Done _offer_family({LR}Loop& loop, {LR}Octets prefix,",
+              f"    std::function<{name}*({LR}Octets)> servant_of) {{",
+              f"  {LR}Done done = loop.family(prefix, {{{ids}}},",
               f"      [servant_of]({LR}Octets key) {{ return servant_of(key) != nullptr; }});",
               "  return done ? _offer_operations(loop, prefix, servant_of) : done;", "}", "", "protected:",
               *offering("_offer_own", name)]
@@ -374,6 +383,6 @@ def files_of(unit: model.Unit) -> Dict[str, str]:
             continue
         lines += within(one.scope[:-1], "", body_of(one, unit, False))
         if isinstance(one, model.Interface):
-            lines += within(one.scope[:-1], "POA_", servant(one))
+            lines += within(one.scope[:-1], "POA_", servant(one, unit))
     with open(os.path.join(os.path.dirname(__file__), "lemonrudder_idl.hpp"), encoding="ascii") as file:
         return {made: "\n".join([*lines, f"#endif  // {guard}", ""]), "lemonrudder_idl.hpp": file.read()}

@@ -28,8 +28,8 @@ _idl.made_for({version})
 # what each exception of Python has, each class, and each number
 EXCEPTIONS = ("args", "add_note", "with_traceback")
 CLASSES = ("mro",)
-NUMBERS = ("as_integer_ratio", "bit_count", "bit_length", "conjugate", "denominator", "from_bytes", "imag", "is_integer",
-           "name", "numerator", "real", "to_bytes", "value", *CLASSES)
+NUMBERS = ("as_integer_ratio", "bit_count", "bit_length", "conjugate", "denominator", "from_bytes", "imag",
+           "is_integer", "name", "numerator", "real", "to_bytes", "value", *CLASSES)
 IGNORED = "  # type: ignore[no-any-return]"
 PACKAGE = '"""Made by omniidl -blemonrudder -Wbpython. Not to be changed by hand."""\n'
 
@@ -318,8 +318,8 @@ def package(name: str, module: str, lines: List[str]) -> Tuple[str, str]:
         before = [line for line in text.splitlines() if line.startswith("from ") and not line.startswith(mine)]
     lines = list(dict.fromkeys(before + lines))
     # (its last word is the name in the package)
-    names = dict.fromkeys(line.split()[-1] for line in lines)
-    return path, "\n".join([PACKAGE + "\n".join(lines), "", "__all__ = [", *(f'    "{name}",' for name in names), "]", ""])
+    names = [f'    "{name}",' for name in dict.fromkeys(line.split()[-1] for line in lines)]
+    return path, "\n".join([PACKAGE + "\n".join(lines), *(["", "__all__ = [", *names, "]"] if names else []), ""])
 
 
 def packages_of(unit: model.Unit) -> Dict[str, str]:

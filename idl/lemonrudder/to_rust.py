@@ -418,7 +418,7 @@ def operation_impl(operation: model.Operation, at: At) -> List[str]:
 def type_of_octets(operation: model.Operation) -> List[str]:
     """The type that stands for an operation without types: its values are bodies of exceptions."""
     name, body, done = marker_of(operation), "_idl::Body", "_idl::Result<(), _Error> {"
-    return [f"/// `{operation.name}`, by octets, and the body of an exception that it raises, which begins with its id.",
+    return [f"/// `{operation.name}`, by octets, and the body of an exception that it raises.",
             DERIVES, f"pub struct {name}(pub {body});", "", *block(f"impl _idl::Operation for {name} {{", [
                 f"const NAME: &'static str = {quoted(operation.name)};",
                 "const SIGNATURE: _idl::Option<_lr::Signature<'static>> = None;",

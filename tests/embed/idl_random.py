@@ -9,21 +9,22 @@ from typing import Dict, List, Set
 from tests.embed import idl_c_test, idl_rust_test
 
 # of Python, and of what is made in each language
-OF_PYTHON = """int str bytes float list tuple dict object type property super print abc dataclasses typing builtins mro args
-add_note with_traceback name value real imag numerator denominator conjugate bit_length to_bytes from_bytes self cls
-register fields items keys values result body idl lemonrudder enum""".split()
-OF_CPP = """std errno assert call caller key in out value label one two done loop asking SIGTERM POLLIN SO_ERROR HUGE_VAL
-st_mtime ops into from new clone reader writer""".split()
+OF_PYTHON = """int str bytes float list tuple dict object type property super print abc dataclasses typing builtins mro
+args add_note with_traceback name value real imag numerator denominator conjugate bit_length to_bytes from_bytes self
+cls register fields items keys values result body idl lemonrudder enum""".split()
+OF_CPP = """std errno assert call caller key in out value label one two done loop asking SIGTERM POLLIN SO_ERROR
+HUGE_VAL st_mtime ops into from new clone reader writer""".split()
 WORDS = sorted({word.lower(): word for word in (
     *keyword.kwlist, *OF_PYTHON, *OF_CPP, *idl_c_test.WORDS, *idl_rust_test.WORDS)}.values())
 BASICS = ["boolean", "char", "octet", "short", "unsigned short", "long", "unsigned long", "long long",
           "unsigned long long", "float", "double", "string", "string<7>", "Object"]
 # what can't be made but as octets
-ODD = ["any", "wchar", "wstring", "wstring<4>", "fixed<5, 2>", "long double", "CORBA::TypeCode", "Boxed", "Own", "Vague"]
+ODD = ["any", "wchar", "wstring", "wstring<4>", "Money", "long double", "CORBA::TypeCode", "Boxed", "Own", "Vague"]
 SWITCHES = ["short", "unsigned short", "long", "unsigned long", "long long", "unsigned long long", "boolean", "char"]
 CONSTANTS = {"boolean": "TRUE", "char": "'c'", "octet": "255", "short": "-32768", "unsigned short": "65535",
              "long": "-2147483647", "unsigned long": "4294967295", "long long": "-9223372036854775807",
-             "unsigned long long": "18446744073709551615", "float": "1.5", "double": "-2.25e300", "string": '"a\\"?\\n"'}
+             "unsigned long long": "18446744073709551615", "float": "1.5", "double": "-2.25e300",
+             "string": '"a\\"?\\n"'}
 
 
 def folded(name: str) -> str:
@@ -89,7 +90,7 @@ class Maker:
 
     def odd(self) -> str:
         name = self.dice.choice(ODD)
-        return f"::odd_{self.number}::{name}" if name in ("Boxed", "Own", "Vague") else name
+        return f"::odd_{self.number}::{name}" if name in ("Boxed", "Own", "Vague", "Money") else name
 
     def anonymous(self, can: bool) -> str:
         """A type of a member, which may be a sequence without a name."""
@@ -136,8 +137,9 @@ class Maker:
 
     def nested(self, scope: str) -> None:
         """A struct, a union and an enum in a struct."""
-        name, inner, kind = self.word(scope), self.word("inner"), self.word("inner")
-        self.names["inner"] = set()
+        name = self.word(scope)
+        own = f"{scope}::{name}"
+        inner, kind = self.word(own), self.word(own)
         one, two = f"one_{self.number}", f"two_{self.number}"
         self.lines.append(f"struct {name} {{ struct {inner} {{ long x; }} {one}; union {kind} switch (enum {kind}k {{ "
                           f"{kind}a, {kind}b }}) {{ case {kind}a: octet y; default: string z; }} {two}[2]; }};")
@@ -158,16 +160,18 @@ class Maker:
 
     def tree(self, scope: str) -> None:
         """A struct and a union that hold themselves, one directly and one by a part of it."""
-        struct, some, union, two, inner = (self.word(scope) for _ in range(5))
+        struct, some, union, two = (self.word(scope) for _ in range(4))
+        inner = self.word(f"{scope}::{struct}")
         switch, member = self.dice.choice(["long", "char"]), self.word(f"{scope}::{struct}")
         label = "1" if switch == "long" else "'x'"
         type = self.type(self.dice.random() < 0.9)
-        self.lines += [f"struct {struct}; union {union};", f"typedef sequence<{struct}> {some};",
-                       f"typedef sequence<{union}, 2> {two};",
-                       f"union {union} switch ({switch}) {{ case {label}: {two} some_{self.number}; "
+        node, trees = self.named(scope, struct), self.named(scope, union)
+        self.lines += [f"struct {struct}; union {union};", f"typedef sequence<{node}> {some};",
+                       f"typedef sequence<{trees}, 2> {two};",
+                       f"union {union} switch ({switch}) {{ case {label}: {self.named(scope, two)} some_{self.number}; "
                        f"default: {type} {self.word(f'{scope}::{union}')}; }};",
-                       f"struct {struct} {{ {union} {member}; sequence<{struct}> more_{self.number}[2]; "
-                       f"struct {inner} {{ {some} few; }} part_{self.number}; }};"]
+                       f"struct {struct} {{ {trees} {member}; sequence<{node}> more_{self.number}[2]; "
+                       f"struct {inner} {{ {self.named(scope, some)} few; }} part_{self.number}; }};"]
         for name in (struct, some, union, two):
             self.types[self.named(scope, name)] = self.is_whole(type)
 
@@ -222,7 +226,7 @@ class Maker:
 
     def inner_struct(self, scope: str) -> None:
         name = self.word("interfaces")
-        self.lines.append(f"struct {name} {{ {self.type()} {self.word('inner of ' + name)}; }};")
+        self.lines.append(f"struct {name} {{ {self.type()} {self.word(f'{scope}::{name}')}; }};")
         self.types[self.named(scope, name)] = True
 
     def inner_enum(self, scope: str) -> None:
@@ -245,7 +249,8 @@ class Maker:
         before = len(self.interfaces), set(self.types), set(self.exceptions)
         self.lines += [f"#ifndef FILE_{self.number}", f"#define FILE_{self.number}",
                        *(f'#include "{file.name}.idl"' for file in self.included)]
-        self.lines += ["#include <orb.idl>", f"module odd_{self.number} {{", "native Handle; valuetype Boxed wstring;",
+        self.lines += ["#include <orb.idl>", f"module odd_{self.number} {{",
+                       "native Handle; valuetype Boxed wstring; typedef fixed<5, 2> Money;",
                        "valuetype Own { public long x; }; local interface Nearby { enum Inner { a, b }; void f(); };",
                        "abstract interface Vague { void g(in Handle x); long h(); };", "};"]
         self.declare("", self.dice.randint(0, 4))

@@ -31,7 +31,7 @@ class Deep : public POA_Store::Deep {
     out.put_ulong(tk_long).put_long(*number + 1);
     return call.answer_raw(lr::ReplyStatus::no_exception, out.order(), out.octets());
   }
-  lr::Done call(lr::idl::Asking<Store::Deep::_ops::call>& asking, std::int32_t call) override {
+  lr::Done call(lr::idl::Asking<Deep::_ops::call>& asking, std::int32_t call) override {
     return asking.answer(call + 1);
   }
 };
