@@ -37,7 +37,7 @@ OF_LIBRARY = [
     "tests.relay.operation_test", "tests.relay.guards_test",
     "tests.embed.idl_test", "tests.embed.idl_c_test", "tests.embed.idl_rust_test", "tests.embed.idl_stubs_test",
     "tests.embed.idl_files_test", "tests.embed.objects_test", "tests.embed.naming_test", "tests.embed.packages_test",
-    "tests.relay.store_test",
+    "tests.relay.store_test", "tests.embed.bench_test",
 ]
 
 
@@ -51,7 +51,8 @@ def needs_of(module: str) -> list[str]:
     relay."""
     if module in OF_LIBRARY:
         needed = ["relay"] if module.startswith("tests.relay") else ["library"]
-        return ["relay", "giop_tool"] if module.endswith(".packages_test") else needed
+        others = {"packages_test": ["giop_tool"], "bench_test": ["benches", "giop_tool", "echo_server"]}
+        return ["relay", *others[module.split(".")[-1]]] if module.split(".")[-1] in others else needed
     with open(os.path.join(programs.ROOT, *module.split(".")) + ".py", encoding="utf-8") as file:
         named = re.findall(r'"([A-Z_]+)"', file.read())
     return [programs.CRATES[name] for name in programs.CRATES if name in named]
