@@ -2840,7 +2840,7 @@ class Bounds(Case):
             async with server, client:
                 async def refused(operation, format, value):
                     with self.assertRaises(lr.SystemException) as caught:
-                        await client.call("k", operation, format, [value], "l")
+                        await client.call("k", operation, format, [value], "l", timeout=SECONDS)
                     return str(caught.exception)
 
                 self.assertEqual(await refused("pairs", "[(ls)]", many), "MARSHAL, minor 0, COMPLETED_NO")
@@ -2849,13 +2849,13 @@ class Bounds(Case):
                 self.assertEqual(performed, [])
                 for operation, format, value in (("pairs", "[(ls)]", few), ("numbers", "[l]", [1] * 200000),
                                                  ("deep", "[[(ls)]]", [few[:30000], few[:30000]]), ("raw", "[s]", [""] * 9)):
-                    self.assertEqual(await client.call("k", operation, format, [value], "l"), len(value))
+                    self.assertEqual(await client.call("k", operation, format, [value], "l", timeout=SECONDS), len(value))
                 # (what a raw operation reads is its own: it may say what it is refused by)
                 self.assertEqual(await refused("raw", "[s]", [""] * 70000), "UNKNOWN, minor 0, COMPLETED_MAYBE")
             for most, count in ((3, 3), (None, 70000)):
                 server, client = await self.pair(operations, max_elements=most)
                 async with server, client:
-                    self.assertEqual(await client.call("k", "pairs", "[(ls)]", [many[:count]], "l"), count)
+                    self.assertEqual(await client.call("k", "pairs", "[(ls)]", [many[:count]], "l", timeout=SECONDS), count)
                     if most is not None:
                         with self.assertRaises(lr.SystemException):
                             await client.call("k", "pairs", "[(ls)]", [many[:most + 1]], "l")
