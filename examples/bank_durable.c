@@ -118,6 +118,24 @@ static bool take(struct outcome *outcome, uint32_t status, const unsigned char *
   return outcome->body != NULL || bank_failed("bank_durable", "no memory");
 }
 
+/* Writes the body of a system exception, COMPLETED_MAYBE, and answers its size. */
+static size_t put_maybe(unsigned char *octets, size_t room, const char *id, size_t id_size) {
+  lr_place out = {.order = LR_ORDER_BIG};
+  lr_put_string(octets, room, &out, id, id_size);
+  lr_put_ulong(octets, room, &out, 0);
+  lr_put_ulong(octets, room, &out, LR_COMPLETED_MAYBE);
+  return (size_t)out.next;
+}
+
+/* What expired is refused; where it was perhaps committed before, it is answered that perhaps it was performed. */
+static bool take_over(struct job *job) {
+  unsigned char octets[64];
+  job->is_refused = !job->is_in_doubt;
+  if (job->is_refused) return job->refusal = LR_EX_BAD_CONTEXT, true;
+  size_t size = put_maybe(octets, sizeof octets, LR_TEXT("IDL:omg.org/CORBA/BAD_CONTEXT:1.0"));
+  return take(&job->outcome, LR_REPLY_SYSTEM_EXCEPTION, octets, size);
+}
+
 /* The outcome of a deposit: a balance, or Overdrawn with it. */
 static bool take_balance(struct outcome *outcome, bool is_overdrawn, int64_t balance) {
   unsigned char octets[64];
@@ -155,9 +173,8 @@ static bool perform(struct job *job) {
     int found = store->find(&job->key, &job->outcome);
     if (found != 0) return found == 1;
     job->is_sure = true;
-    job->is_refused = job->key.expiration < least;
-    if (job->is_refused) job->refusal = LR_EX_BAD_CONTEXT;
     bank_reach("looked");
+    if (job->key.expiration < least) return take_over(job);
   }
   job->is_refused = job->refusal != NONE;
   if (job->is_refused) return true;
@@ -262,11 +279,8 @@ static void *work(void *nothing) {
 /* Answers TRANSIENT, COMPLETED_MAYBE: it is not known whether the store has an outcome, or will have it. */
 static int64_t answer_unknown(lr_server *server, uint64_t ticket) {
   unsigned char octets[64];
-  lr_place out = {.order = LR_ORDER_BIG};
-  lr_put_string(octets, sizeof octets, &out, LR_TEXT("IDL:omg.org/CORBA/TRANSIENT:1.0"));
-  lr_put_ulong(octets, sizeof octets, &out, 0);
-  lr_put_ulong(octets, sizeof octets, &out, LR_COMPLETED_MAYBE);
-  return lr_server_answer_unkept(server, ticket, LR_REPLY_SYSTEM_EXCEPTION, LR_ORDER_BIG, octets, out.next);
+  size_t size = put_maybe(octets, sizeof octets, LR_TEXT("IDL:omg.org/CORBA/TRANSIENT:1.0"));
+  return lr_server_answer_unkept(server, ticket, LR_REPLY_SYSTEM_EXCEPTION, LR_ORDER_BIG, octets, size);
 }
 
 /* Answers a request by what the store has done. What the store keeps is not kept here. */

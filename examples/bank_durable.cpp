@@ -47,6 +47,7 @@ constexpr const char* type = "IDL:Bank:1.0";
 constexpr const char* object_type = "IDL:omg.org/CORBA/Object:1.0";
 constexpr const char* overdrawn = "IDL:Bank/Overdrawn:1.0";
 constexpr const char* transient = "IDL:omg.org/CORBA/TRANSIENT:1.0";
+constexpr const char* bad_context = "IDL:omg.org/CORBA/BAD_CONTEXT:1.0";
 constexpr std::size_t most_name = 31;
 constexpr std::size_t most_grouped = 256;
 constexpr int most_tries = 4;
@@ -68,10 +69,10 @@ lr::Outcome outcome_of(lr::ReplyStatus status, const lr::GrowingWriter& body) {
   return {status, body.order(), {octets.begin(), octets.end()}};
 }
 
-/* TRANSIENT, COMPLETED_MAYBE. */
-lr::Outcome unknown() {
+/* A system exception, COMPLETED_MAYBE: where nobody can know, TRANSIENT. */
+lr::Outcome maybe(const char* id = transient) {
   lr::GrowingWriter body;
-  body.put_string(transient);
+  body.put_string(id);
   body.put_ulong(0);
   body.put_ulong(static_cast<std::uint32_t>(lr::Completed::maybe));
   return outcome_of(lr::ReplyStatus::system_exception, body);
@@ -129,6 +130,8 @@ class Database {
       if ((job.outcome = find(*job.named))) return;
       job.is_sure = true;
       bank_reach("looked");
+      // (what expired is refused; where it was perhaps committed before, perhaps it was performed)
+      if (job.named->expiration < least_ && job.is_in_doubt) return job.outcome = maybe(bad_context), void();
       if (job.named->expiration < least_) return job.refusal.emplace(SystemException::bad_context), void();
     }
     if ((job.refusal = job.judged.second)) return;
@@ -267,7 +270,7 @@ class Teller {
     if (job.refusal)
       job.later.refuse(*job.refusal);
     else
-      job.later.answer_unkept(job.outcome ? *std::move(job.outcome) : unknown());
+      job.later.answer_unkept(job.outcome ? *std::move(job.outcome) : maybe());
     bank_reach("answered");
   }
 
@@ -360,7 +363,7 @@ int main(int count, char** words) {
     if (!named.ok()) return named.error();
     auto judged = judge(asked);
     auto later = asked.later();
-    if (!later.ok() && *named) return asked.answer_unkept(unknown());
+    if (!later.ok() && *named) return asked.answer_unkept(maybe());
     if (!later.ok()) return later.error();
     bank_reach("asked");
     std::vector<Job> jobs;

@@ -15,6 +15,7 @@
 #include <signal.h>
 #include <stdbool.h>
 #include <stdio.h>
+#include <stdlib.h>
 #include <string.h>
 #include <sys/socket.h>
 #include <time.h>
@@ -140,6 +141,8 @@ static uint64_t moment(void) {
   return lr_moment((uint64_t)time.tv_sec, (uint32_t)time.tv_nsec);
 }
 
+#include "loop_remove.h"
+
 static size_t slot_of(const struct peer *peer) { return (size_t)(peer - peers); }
 
 /* Gives a peer a turn, if it has none. */
@@ -176,8 +179,7 @@ static void feed(struct peer *peer) {
     if (peer->is_held) return;
     size_t left = peer->got - peer->fed;
     int64_t taken = lr_server_feed(served, peer->connection, now, came + peer->fed, left < STEP ? left : STEP);
-    if (lr_server_asked(served, &asked, sizeof asked) == 1) performs(served, &asked);
-    if (lr_server_asked(served, &asked, sizeof asked) == 1) lr_server_refuse(served, asked.ticket, LR_EX_TRANSIENT, 0);
+    if (lr_server_asked(served, &asked, sizeof asked) == 1) perform_one(&asked);
     peer->fed = taken < 0 ? peer->got : peer->fed + (size_t)taken; /* (where it is gone, what was answered is sent) */
     if (taken == 0 || nanoseconds() > end) return;
   }
@@ -430,6 +432,7 @@ int loop_serve(lr_server *server, int listener, void (*perform)(lr_server *serve
     put_back(before);
     take_turns();
     go_on();
+    if (leaving != NULL) take_out_all();
     if (is_called && listener_fd >= 0) accept_peers();
     if (second != last) pass(second);
     last = second;
@@ -440,6 +443,7 @@ int loop_serve(lr_server *server, int listener, void (*perform)(lr_server *serve
   for (struct peer *peer = peers + FIRST; peer < peers + SLOTS; peer++)
     if (peer->fd >= 0) drop(peer);
   close_waiter();
+  forget_leaving();
   return is_well ? 0 : -1;
 }
 

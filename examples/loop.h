@@ -29,9 +29,13 @@
 #ifndef LOOP_TICK
 #define LOOP_TICK 1000
 #endif
-/* and how many seconds after SIGTERM what is parked may be answered. */
+/* how many seconds after SIGTERM what is parked may be answered: */
 #ifndef LOOP_DRAIN
 #define LOOP_DRAIN 30
+#endif
+/* and 1 where the server asks first (LR_SET_ASK_FIRST). */
+#ifndef LOOP_ASKS_FIRST
+#define LOOP_ASKS_FIRST 0
 #endif
 
 /* Listens at an IPv4 address, and answers a socket, or -1. Port 0 becomes one that is free. From then on SIGTERM ends
@@ -52,6 +56,13 @@ int64_t loop_print(const char *type, size_t type_size, uint32_t minor, const cha
  * a peer is dropped, or the one that is idle longest, for a second at least, is told goodbye; else it waits. */
 int loop_serve(lr_server *server, int listener, void (*perform)(lr_server *server, const lr_request *asked),
                void (*settle)(lr_server *server));
+
+/* Takes an object away: `perform` and `settle` may, on whose thread it is. Who asks for it from now on is answered
+ * OBJECT_NOT_EXIST; with LOOP_ASKS_FIRST `perform` is asked for what has FT_REQUEST, as for what is refused so. What is
+ * parked of it ends by its own outcome, which is kept. Once nothing of it is parked it is taken out of what the server
+ * has on offer (lr_catalogue_remove); up to then its key is taken, and a LocateRequest says that it is here.
+ * LR_E_MEMORY. */
+int64_t loop_remove(const void *key, size_t key_size);
 
 /* Has `settle` called, on the thread of loop_serve. It may be called by any thread, and in a signal's handler. */
 void loop_wake(void);

@@ -18,6 +18,7 @@
 #include <signal.h>
 #include <stdbool.h>
 #include <stdio.h>
+#include <stdlib.h>
 #include <string.h>
 #include <sys/epoll.h>
 #include <sys/eventfd.h>
@@ -153,6 +154,8 @@ static void name_due(struct loop *loop) {
   while (lr_server_next_due(served, &connection) == 1) name_peer(loop, connection);
 }
 
+#include "loop_remove.h"
+
 /* Feeds what came, until enough is due or parked, or the turn is over. */
 static void feed(struct loop *loop, struct peer *peer) {
   const unsigned char *came = loop->rooms[slot_of(loop, peer)].came;
@@ -164,8 +167,7 @@ static void feed(struct loop *loop, struct peer *peer) {
     if (peer->is_held) return;
     size_t left = peer->got - peer->fed;
     int64_t taken = lr_server_feed(served, peer->connection, now, came + peer->fed, left < STEP ? left : STEP);
-    if (lr_server_asked(served, &asked, sizeof asked) == 1) performs(served, &asked);
-    if (lr_server_asked(served, &asked, sizeof asked) == 1) lr_server_refuse(served, asked.ticket, LR_EX_TRANSIENT, 0);
+    if (lr_server_asked(served, &asked, sizeof asked) == 1) perform_one(&asked);
     peer->fed = taken < 0 ? peer->got : peer->fed + (size_t)taken; /* (where it is gone, what was answered is sent) */
     if (taken == 0 || nanoseconds() > end) return;
   }
@@ -266,6 +268,7 @@ static void exchange(struct loop *loop, struct peer *peer) {
   pthread_mutex_lock(&lock);
   if (is_told) lr_server_farewell(served, peer->connection);
   feed(loop, peer);
+  if (leaving != NULL) take_out_all();
   collect(loop, peer);
   name_due(loop);
   pthread_mutex_unlock(&lock);
@@ -369,6 +372,7 @@ static void take_held(struct loop *loop) {
 static void settle(struct loop *loop) {
   pthread_mutex_lock(&lock);
   settles(served);
+  if (leaving != NULL) take_out_all();
   name_due(loop);
   for (size_t index = 0; index < LOOP_THREADS; index++)
     if (loops[index].held_count > 0) loop->wakes |= UINT64_C(1) << index;
@@ -607,6 +611,7 @@ int loop_serve(lr_server *server, int fd, void (*perform)(lr_server *server, con
   while (begun > 1) pthread_join(loops[--begun].id, NULL);
   for (size_t index = 0; index < LOOP_THREADS; index++) close_loop(&loops[index]);
   close(listener);
+  forget_leaving();
   errno = failure;
   return failure == 0 ? 0 : -1;
 }

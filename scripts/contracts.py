@@ -39,9 +39,11 @@ bodies, each below the clause that refuses it.
 
 
 def crates() -> list[str]:
-    """The libraries: the crates that hand something out, but for what tests share."""
-    has_root = {crate: f"crates/{crate}/src/lib.rt" in files_of(crate, "src") for crate in listed()}
-    return [crate for crate in has_root if has_root[crate] and not re.search(r"_tests$|^trials$", crate)]
+    """The libraries: the crates that hand something out, but for what tests share. What C alone calls has no page: it says
+    the contracts of a library again."""
+    roots = {crate: f"crates/{crate}/src/lib.rt" for crate in listed() if not re.search(r"_tests$|^trials$", crate)}
+    return [crate for crate, root in roots.items()
+            if root in files_of(crate, "src") and re.search(r"^pub (?:use|mod) ", text_of(root), re.M)]
 
 
 @functools.lru_cache(maxsize=None)
@@ -61,12 +63,16 @@ def groups_of(crate: str) -> list[tuple[str, list[tuple[str, str]]]]:
     """What lib.rt hands out, as a reader meets it: under each comment the names, each with the file of its module."""
     groups: list[tuple[str, list[tuple[str, str]]]] = []
     for note, module, listed_names, one in re.findall(
-        r"((?:^//(?!!).*\n)*)^pub use (\w+)::(?:\{([^}]*)\}|(\w+));", text_of(f"crates/{crate}/src/lib.rt"), re.M
+        r"((?:^//(?!!).*\n)*)^pub use ((?:\w+::)+)(?:\{([^}]*)\}|(\w+));", text_of(f"crates/{crate}/src/lib.rt"), re.M
     ):
         if note or not groups:
             groups.append((" ".join(line[2:].strip() for line in note.strip().split("\n")), []))
         names = re.findall(r"\w+", listed_names or one)
-        groups[-1][1].extend((name, f"crates/{crate}/src/{module}.rt") for name in names)
+        file = f"crates/{crate}/src/{module[:-2].replace('::', '/')}.rt"
+        if "::" in module[:-2]:  # what a module inside of another has stands in the order of its file
+            lines = {item.name: item.line for item in items_of(file)}
+            names.sort(key=lambda name: lines.get(name, 0))
+        groups[-1][1].extend((name, file) for name in names)
     return groups
 
 
@@ -75,7 +81,7 @@ def top_items(crate: str) -> list[Item]:
 
 
 def groups_of_items(crate: str) -> list[tuple[str, list[Item]]]:
-    """What is public, by group: what lib.rt hands out, of a library for C its exports and what these name, and laws."""
+    """What is public, by group: what lib.rt hands out, and laws."""
     groups = []
     for title, names in groups_of(crate):
         found = [(name, [i for i in items_of(file) if i.name == name and i.kind != "impl"]) for name, file in names]
@@ -83,15 +89,6 @@ def groups_of_items(crate: str) -> list[tuple[str, list[Item]]]:
         if missing:
             raise Missing(f"crates/{crate}/src/lib.rt hands out {missing[0]}, which its file has not")
         groups.append((title, [items[0] for _, items in found]))
-    exports = [f for f in module_files(crate) if any('extern "C" fn' in i for i in [text_of(f)])]
-    for file in exports:
-        title = first_sentence(file_doc(file)).rstrip(".")
-        groups.append((title, [i for i in items_of(file) if i.is_public and i.kind == "fn"]))
-    if exports:
-        heads = " ".join(i.head for _, items in groups for i in items)
-        named = set(re.findall(r"\w+", heads))
-        types = [i for i in top_items(crate) if i.kind in ("struct", "enum") and i.is_public and i.name in named]
-        groups.append(("What the exports are given", types))
     laws = [i for i in top_items(crate) if i.file.endswith("/src/laws.rt") and i.kind == "fn" and i.is_public]
     return groups + ([("Laws", laws)] if laws else [])
 
@@ -213,7 +210,7 @@ class Page:
 
     def function(self, item: Item, owner: str, level: int, outer: str = ""):
         says = " ".join(item.doc) if is_law(item) else first_sentence(item.doc)
-        head = re.sub(r'^(pub )?(const )?(unsafe )?(extern "C" )?', "", item.head)
+        head = re.sub(r"^(pub )?(const )?(unsafe )?", "", item.head)
         self.heading(level, f"{owner}::{item.name}" if owner else item.name, item)
         law = "A law: its body is empty. " if is_law(item) and owner else ""
         self.lines += [law + says, ""] if says else []

@@ -3,46 +3,19 @@ import contextlib
 import hashlib
 import os
 import time
+from dataclasses import dataclass
 
 ROOT = os.path.dirname(os.path.dirname(os.path.realpath(__file__)))
 TOOL = "giop_tool"
 PROGRAM = os.path.join(ROOT, "crates", TOOL, "out", TOOL)
-# what the proved program was built from, a line for each file or folder with its sum; its time is that of the build's
-# beginning
-BUILT = PROGRAM + ".built"
-# the same of one crate, in its folder out/
-NOTED = "built"
-# what the proof of each crate takes from nothing, in seconds of processor time
-SECONDS = {
-    "cdr_core": 299,
-    "ior_core": 96,
-    "giop_core": 306,
-    "giop_frames": 139,
-    "giop_link": 147,
-    "corbaloc": 120,
-    "ft_log": 104,
-    "ft_client": 164,
-    "ft_objects": 82,
-    "ft_orb": 900,
-    "ft_ends": 200,
-    "ft_lives": 95,
-    "ft_tcp": 48,
-    "lemonrudder": 635,
-    "digits": 60,
-    "counter": 40,
-    "giop_text": 86,
-    "giop_types": 165,
-    "giop_run": 322,
-    "giop_tap": 99,
-    "giop_lines": 243,
-    "giop_trace": 255,
-    "giop_tool": 314,
-    "uses": 250,
-    "orb_tests": 150,
-    "schedule_player": 150,
-}
+# where builds that are not proved stand
+UNPROVED = os.path.join(ROOT, "out", "unproved")
 # the parts of a crate that its proof and its code are made from
 PARTS = ("src", "specs", "proofs")
+# what the proof of each crate took from nothing when that was last noted (./prove --note), in seconds of processor time
+MINUTES = os.path.join(ROOT, "scripts", "minutes.txt")
+with open(MINUTES, encoding="utf-8") as noted:
+    SECONDS = {name: int(seconds) for name, seconds in map(str.split, noted)}
 
 
 def listed():
@@ -73,9 +46,9 @@ def now():
     return time.time() - 0.02
 
 
-def places_of(crate):
+def places_of(crate, parts=PARTS):
     """The folders that a crate's proof and code are made from, from the top of the repository."""
-    return [f"crates/{crate}/{part}" for part in PARTS if os.path.isdir(f"{ROOT}/crates/{crate}/{part}")]
+    return [f"crates/{crate}/{part}" for part in parts if os.path.isdir(f"{ROOT}/crates/{crate}/{part}")]
 
 
 def sum_of(place):
@@ -90,53 +63,42 @@ def sum_of(place):
     return sums.hexdigest()
 
 
-def note_built(since):
-    """Notes that the program was proved and built from the sources as they stood at a moment, for ./giop."""
-    places = ["crates.txt", *(place for crate in needed(TOOL, listed()) for place in places_of(crate))]
-    with open(BUILT, "w", encoding="utf-8") as file:
-        file.write("".join(f"{place} {sum_of(place)}\n" for place in places))
-    os.utime(BUILT, (since, since))
+@dataclass(frozen=True)
+class Build:
+    """A program, and what it was built from: its crate and all below it, of each the parts that count, and files beside
+    them. The note of it has a line for each file or folder, with its sum, and the time of the build's beginning."""
 
+    path: str = PROGRAM
+    crate: str = TOOL
+    parts: tuple = PARTS
+    beside: tuple = ()
 
-def is_same():
-    """Whether the sources are those that the program was built from, whatever their times are. If so, their times are
-    not asked about again: a tree that was copied is current."""
-    since = now()
-    try:
-        with open(BUILT, encoding="utf-8") as lines:
-            noted = dict(line.split() for line in lines)
-    except (OSError, ValueError):
-        return False
-    places = ["crates.txt", *(place for crate in needed(TOOL, listed()) for place in places_of(crate))]
-    if noted != {place: sum_of(place) for place in places}:
-        return False
-    with contextlib.suppress(OSError):
-        os.utime(BUILT, (since, since))
-    return True
+    @property
+    def noted(self):
+        return self.path + ".built"
 
+    def places(self):
+        """The files and folders that it is built from."""
+        below = [place for crate in needed(self.crate, listed()) for place in places_of(crate, self.parts)]
+        return ["crates.txt", *self.beside, *below]
 
-def note_proved(crate):
-    """Notes of a library that it was proved and built from its sources, for ./build."""
-    noted = os.path.join(ROOT, "crates", crate, "out", NOTED)
-    with open(noted, "w", encoding="utf-8") as file:
-        file.write("".join(f"{place} {sum_of(place)}\n" for place in places_of(crate)))
+    def note(self, since):
+        """Notes that it was built from the sources as they stood at a moment, for ./giop."""
+        with open(self.noted, "w", encoding="utf-8") as file:
+            file.write("".join(f"{place} {sum_of(place)}\n" for place in self.places()))
+        os.utime(self.noted, (since, since))
 
-
-def was_proved(crate):
-    """Whether a library was proved and built here at some time."""
-    return os.path.exists(os.path.join(ROOT, "crates", crate, "out", NOTED))
-
-
-def left_of(crates):
-    """Those of some crates, each after those that it needs, that were not proved and built from these sources."""
-    known, left = listed(), []
-    for crate in crates:
-        noted = os.path.join(ROOT, "crates", crate, "out", NOTED)
+    def is_same(self):
+        """Whether the sources are those that it was built from, whatever their times are. If so, their times are not
+        asked about again: a tree that was copied is current."""
+        since = now()
         try:
-            with open(noted, encoding="utf-8") as lines:
-                is_noted = lines.read() == "".join(f"{place} {sum_of(place)}\n" for place in places_of(crate))
-        except OSError:
-            is_noted = False
-        if not is_noted or any(it in left for it in known[crate]):
-            left.append(crate)
-    return left
+            with open(self.noted, encoding="utf-8") as lines:
+                noted = dict(line.split() for line in lines)
+        except (OSError, ValueError):
+            return False
+        if not os.path.isfile(self.path) or noted != {place: sum_of(place) for place in self.places()}:
+            return False
+        with contextlib.suppress(OSError):
+            os.utime(self.noted, (since, since))
+        return True

@@ -20,17 +20,6 @@ def load_kit():
     return kit
 
 
-def are_of_run(crates, since):
-    """Whether the libraries of these crates are those that the run of `rt ci` left that began at a moment."""
-
-    def is_of_run(crate):
-        form = f"{crate.rlib}/format"
-        is_kept = os.path.exists(f"{crate.folder}/out/rlib/stamp")
-        return os.path.isfile(form) and not is_kept and os.stat(form).st_ctime >= since
-
-    return all(map(is_of_run, crates))
-
-
 def cache():
     """Where it is kept what earlier runs on this machine came to."""
     return os.path.join(os.environ.get("XDG_CACHE_HOME") or os.path.expanduser("~/.cache"), "lemonrudder")
@@ -41,10 +30,14 @@ def files_below(kit, crate):
     return [file for it in [crate, *crate.below()] for file in kit.files_of(it.folder)]
 
 
-def sum_of(kit, crate, scripts):
-    """A sum of the kit, of those sources and of these scripts, which is the same in each checkout."""
-    total = hashlib.sha256(repr([it.said for it in [crate, *crate.below()]]).encode())
-    for file, top in [(f"{kit.KIT}/WHAT", kit.KIT), *((file, ROOT) for file in (*scripts, *files_below(kit, crate)))]:
+def sum_of(kit, crate, scripts=()):
+    """A sum of the kit, of those sources and of these scripts, which is the same wherever they stand."""
+    files = [(f"{kit.KIT}/WHAT", kit.KIT), *((file, ROOT) for file in scripts)]
+    total = hashlib.sha256()
+    for it in [crate, *crate.below()]:
+        total.update(repr((it.name, it.said)).encode())
+        files += [(file, os.path.dirname(it.folder)) for file in kit.files_of(it.folder)]
+    for file, top in files:
         with open(file, "rb") as it:
             total.update(repr((os.path.relpath(file, top), it.read())).encode())
     return total.hexdigest()

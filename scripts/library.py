@@ -1,4 +1,5 @@
-"""Makes the library for C of the proved crate: an archive, a shared library, headers, files for pkg-config and CMake.
+"""Makes the library for C of the proved crate `lemonrudder_c`, which exports the calls of `lemonrudder`: an archive, a
+shared library, headers, files for pkg-config and CMake.
 
 The rule of versions.  What was built with one version of the library may run with another one of the same series that
 is not older. A series is the versions of one major number; before 1.0, those of one minor number. So 0.1.3 stands in
@@ -11,13 +12,16 @@ import subprocess
 import tempfile
 import time
 
-from scripts.crates import ROOT
-from scripts.kit import are_of_run, are_older, cache, files_below, load_kit, sum_of
+from scripts.crates import ROOT, Build
+from scripts.kit import are_older, cache, files_below, sum_of
 
 LIBRARY = "lemonrudder"
 EMBED = os.path.join(ROOT, "embed")
 IDL = os.path.join(ROOT, "idl", LIBRARY)
-ARCHIVE = os.path.join(ROOT, "crates", LIBRARY, "out", f"lib{LIBRARY}.a")
+# the crate that is built into an archive
+CRATE = "lemonrudder_c"
+ARCHIVE = os.path.join(ROOT, "crates", CRATE, "out", f"lib{CRATE}.a")
+BUILD = Build(ARCHIVE, CRATE)
 TOOLS = ("cc", "ar", "ld", "objcopy")
 # what pkg-config and CMake read: where it is put below lib/, and what it is made of, in embed/
 PACKAGES = {
@@ -26,6 +30,8 @@ PACKAGES = {
     f"cmake/{LIBRARY}/{LIBRARY}-config-version.cmake": f"{LIBRARY}-config-version.cmake.in",
 }
 
+# what says below the prefix how the library was made
+NOTE = f"share/doc/{LIBRARY}/TOOLCHAIN"
 # what is made of IDL stands on these: where each is put below the prefix, and its name in idl/
 RUNTIMES = {f"include/{LIBRARY}_idl.h": f"{LIBRARY}_idl.h", f"include/{LIBRARY}_idl.hpp": f"{LIBRARY}_idl.hpp",
             f"share/{LIBRARY}/{LIBRARY}_idl.c": f"{LIBRARY}_idl.c"}
@@ -62,6 +68,11 @@ def run(*words):
     subprocess.run(words, check=True)
 
 
+def toolchain():
+    """The toolchain of this machine, in a line."""
+    return subprocess.run(["rt", "version"], stdout=subprocess.PIPE, text=True, check=True).stdout.strip()
+
+
 def build(kit, crate):
     """Proves the crate and makes the archive of it; answers whether that succeeded."""
     words = [*crate.words(["--jobs", str(min(4, len(os.sched_getaffinity(0))))], keeps=False), "--toolchain", f"{kit.KIT}/toolchain"]
@@ -78,35 +89,32 @@ def put_whole(source, to):
         os.replace(shutil.copy(source, room), to)
 
 
-def build_over_gate(since, is_anew=False):
-    """Builds the archive over the libraries that the gate left which began at a moment, or, unless it is to be built
-    anew, takes that which an earlier run on this machine built of the same files; answers whether that succeeded."""
-    kit, began = load_kit(), time.time()
-    crate = next(it for it in kit.crates_below(ROOT) if it.name == LIBRARY)
-    if not are_of_run(crate.below(), since):
-        print(f"the gate left no libraries below {LIBRARY}")
-        return False
-    kept = os.path.join(cache(), "archives", sum_of(kit, crate, [os.path.abspath(__file__)]))
+def build_over_gate(gate, is_anew=False):
+    """Builds the archive over the libraries that a gate proved, or, unless it is to be built anew, takes that which an
+    earlier run on this machine built of the same files; answers whether that succeeded."""
+    crate, began = gate.crates[CRATE], time.time()
+    kept = os.path.join(cache(), "archives", sum_of(gate.kit, crate, [os.path.abspath(__file__)]))
     os.makedirs(os.path.dirname(ARCHIVE), exist_ok=True)
     if not is_anew and os.path.isfile(kept):
-        print("an earlier run on this machine proved and built it of the same files")
+        print("the archive is that which an earlier run on this machine built of the same files", flush=True)
         put_whole(kept, ARCHIVE)
-        return True
-    is_built = build(kit, crate)
-    if is_built and are_older(files_below(kit, crate), began):
+    elif not build(gate.kit, crate):
+        return False
+    elif are_older(files_below(gate.kit, crate), began):
         with contextlib.suppress(OSError):
             os.makedirs(os.path.dirname(kept), mode=0o700, exist_ok=True)
             put_whole(ARCHIVE, kept)
-    return is_built
+    BUILD.note(gate.since)
+    return True
 
 
-def make_archive(archive, folder):
-    """Makes the archive of one object. Its global names are the functions of the header, so that nothing else of it
+def make_archive(archive, folder, source):
+    """Makes the archive of one object, of that of the crate. Its global names are the functions of the header, so that nothing else of it
     can clash with what is linked beside it."""
     support, whole, made = (os.path.join(folder, name) for name in ("support.o", "whole.o", f"{LIBRARY}.o"))
     run("cc", "-std=c99", "-O2", "-fPIC", "-ffunction-sections", "-fdata-sections", "-fvisibility=hidden", "-Wall",
         "-Wextra", f"-I{EMBED}/include", "-c", f"{EMBED}/support.c", "-o", support)
-    run("ld", "-r", "--whole-archive", ARCHIVE, "--no-whole-archive", support, "-o", whole)
+    run("ld", "-r", "--whole-archive", source, "--no-whole-archive", support, "-o", whole)
     run("objcopy", "--wildcard", "--keep-global-symbol=lr_*", whole, made)
     if os.path.lexists(archive):
         os.remove(archive)
@@ -133,24 +141,27 @@ def package(source, version):
     return text
 
 
-def install(prefix, destdir=""):
+def install(prefix, destdir="", archive=ARCHIVE, is_proved=True):
     """Puts all of it below a folder, which is itself below another one where that is given: what is written is as if it
-    were not. Answers the paths of what a program needs."""
+    were not. It is made of the archive of the crate. Answers the paths of what a program needs."""
     prefix = destdir + os.path.abspath(prefix)
     lib, include = os.path.join(prefix, "lib"), os.path.join(prefix, "include")
     for folder in (lib, include):
         os.makedirs(folder, exist_ok=True)
-    archive, shared = os.path.join(lib, f"lib{LIBRARY}.a"), os.path.join(lib, f"lib{LIBRARY}.so.{VERSION}")
+    made, shared = os.path.join(lib, f"lib{LIBRARY}.a"), os.path.join(lib, f"lib{LIBRARY}.so.{VERSION}")
     with tempfile.TemporaryDirectory() as folder:
-        make_archive(archive, folder)
-    make_shared(shared, archive)
+        make_archive(made, folder, archive)
+    make_shared(shared, made)
     for header in os.listdir(os.path.join(EMBED, "include")):
         shutil.copyfile(os.path.join(EMBED, "include", header), os.path.join(include, header))
     for name, source in RUNTIMES.items():
         os.makedirs(os.path.dirname(os.path.join(prefix, name)), exist_ok=True)
         shutil.copyfile(os.path.join(IDL, source), os.path.join(prefix, name))
+    os.makedirs(os.path.dirname(os.path.join(prefix, NOTE)), exist_ok=True)
+    with open(os.path.join(prefix, NOTE), "w", encoding="utf-8") as file:
+        file.write(f"{'proved by' if is_proved else 'not proved, made by'} {toolchain()}\n")
     for name, source in PACKAGES.items():
         os.makedirs(os.path.dirname(os.path.join(lib, name)), exist_ok=True)
         with open(os.path.join(lib, name), "w", encoding="utf-8") as file:
             file.write(package(source, VERSION))
-    return archive, shared, include
+    return made, shared, include

@@ -147,6 +147,15 @@ LISTS = [
         (("ft_orb", "owners_may_withdraw"),),
     ),
     Listing(
+        "Answered later",
+        "From the clauses `run` and `new` of `play_deeds`. `Deeds` has what an owner does, and what it is told: read it"
+        " first.",
+        (("ft_orb", "play_deeds", ("run", "new")),),
+        (),
+        (("ft_orb", "runs_are_answered_late"), ("ft_orb", "known_grows"), ("ft_orb", "waiters_are_told_once"),
+         ("ft_orb", "deeds_are_written_by_all")),
+    ),
+    Listing(
         "Over a wire",
         "From the clauses `table` of `serve_stream` and `serve_engine`.",
         (("ft_orb", "serve_stream", ("table",)), ("ft_orb", "serve_engine", ("table",))),
@@ -160,11 +169,17 @@ LISTS = [
     ),
     Listing(
         "Over restarts",
-        "From the laws of lives over one store, `lives_act_once` above all, and the clause `once` of `perform_once`.",
-        (("ft_lives", "perform_once", ("once",)),),
+        "From the law `lives_act_once` over lives and one store, what `refused_are_free` and `commits_are_serial` add to it,"
+        " and the clause `once` of `perform_once`. `Lives`, `Stores` and `Owned` have the premises, `Together` the law.",
+        (
+            ("ft_lives", "lives_act_once", None),
+            ("ft_lives", "refused_are_free", None),
+            ("ft_lives", "commits_are_serial", None),
+            ("ft_lives", "perform_once", ("once",)),
+        ),
         (),
         (("ft_lives", "lives_act_once"), ("ft_lives", "commits_were_admitted"), ("ft_lives", "replies_are_held"),
-         ("ft_lives", "refused_are_free"), ("ft_lives", "commits_are_serial")),
+         ("ft_lives", "refused_are_free"), ("ft_lives", "commits_are_serial"), ("ft_lives", "once_is_owned")),
     ),
     Listing(
         "The layer models",

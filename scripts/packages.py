@@ -2,11 +2,13 @@
 
 Each is made of an installed library and of the programs that are there. Made twice of the same parts they have the same
 octets: every time in them is that of the last commit. SHA256SUMS has their sums, and each has in its documents the
-toolchain by which the library was proved.
+toolchain by which the library was proved. Of a library that was not proved none is made, unless that is asked for: then
+the names of what has the library in it say so.
+
+    python3 -m scripts.packages PREFIX FOLDER      packs what is proved and built, for ./prove
 """
 from __future__ import annotations
 
-import gzip
 import hashlib
 import io
 import json
@@ -20,6 +22,7 @@ from dataclasses import dataclass, field
 
 from scripts import library, relay
 from scripts.crates import PROGRAM, ROOT
+from scripts.packing import compressed, copy, copy_program, copy_runtimes, copy_sources, moment, octets_of, paths_below, put, said
 
 NAME, VERSION = library.LIBRARY, library.VERSION
 SERIES = library.series(VERSION)
@@ -51,81 +54,33 @@ TEXT = {
 }
 
 
-def said(*words: str, **options: object) -> str:
-    """What a command prints."""
-    return subprocess.run(words, check=True, stdout=subprocess.PIPE, text=True, **options).stdout
+class NotProved(Exception):
+    """A library that was not proved is packed only where that is asked for."""
 
 
-def moment() -> int:
-    """The time of all that is packed, in seconds: SOURCE_DATE_EPOCH, or that of the last commit."""
-    given = os.environ.get("SOURCE_DATE_EPOCH")
-    return int(given or said("git", "-C", ROOT, "log", "-1", "--format=%ct"))
+@dataclass(frozen=True)
+class Made:
+    """What is packed: the folder below which the library is installed, and the programs that are there, by their
+    names."""
 
+    prefix: str
+    programs: dict[str, str]
 
-def toolchain() -> str:
-    """The toolchain by which the library was proved, in a line."""
-    return f"proved by {said('rt', 'version').strip()}\n"
+    def toolchain(self) -> str:
+        """How the library was made, in a line."""
+        return octets_of(os.path.join(self.prefix, library.NOTE)).decode()
 
+    def is_proved(self) -> bool:
+        return self.toolchain().startswith("proved by ")
 
-def octets_of(path: str) -> bytes:
-    """What is in a file."""
-    with open(path, "rb") as file:
-        return file.read()
-
-
-def put(path: str, octets: bytes, mode: int = 0o644) -> None:
-    """Writes a file, and the folders above it."""
-    os.makedirs(os.path.dirname(path), exist_ok=True)
-    with open(path, "wb") as file:
-        file.write(octets)
-    os.chmod(path, mode)
-
-
-def copy(source: str, path: str, mode: int = 0o644) -> None:
-    """Copies a file."""
-    put(path, octets_of(source), mode)
-
-
-def compressed(octets: bytes) -> bytes:
-    """Octets by gzip, without a time."""
-    made = io.BytesIO()
-    with gzip.GzipFile(fileobj=made, mode="wb", compresslevel=9, mtime=0) as file:
-        file.write(octets)
-    return made.getvalue()
-
-
-def copy_manual(name: str, share: str) -> None:
-    """Copies the manual page of a program, by gzip."""
-    page = os.path.join(ROOT, "docs", f"{name}.1")
-    if os.path.exists(page):
-        put(f"{share}/man/man1/{name}.1.gz", compressed(octets_of(page)))
-
-
-def copy_program(path: str, name: str, top: str) -> None:
-    """Copies a program, without its symbols, and what belongs to it."""
-    copy(path, f"{top}/bin/{name}", 0o755)
-    subprocess.run(["strip", "--strip-unneeded", "--remove-section=.comment", f"{top}/bin/{name}"], check=True)
-    copy_manual(name, f"{top}/share")
-    completion = os.path.join(ROOT, "docs", f"{name}.bash")
-    if os.path.exists(completion):
-        copy(completion, f"{top}/share/bash-completion/completions/{name}")
-
-
-def copy_sources(source: str, path: str) -> None:
-    """Copies the modules in Python of a folder, and the sources that are beside them."""
-    for name in sorted(os.listdir(source)):
-        if name.endswith((".py", ".typed", ".c", ".h", ".hpp")):
-            copy(os.path.join(source, name), f"{path}/{name}")
-
-
-def copy_runtimes(top: str) -> None:
-    """Copies what is made of IDL in C and C++ stands on below a folder."""
-    for name, source in library.RUNTIMES.items():
-        copy(os.path.join(library.IDL, source), f"{top}/{name}")
+    @property
+    def version(self) -> str:
+        """The version, which says so where the library is not proved."""
+        return VERSION if self.is_proved() else f"{VERSION}+unproved"
 
 
 def programs() -> dict[str, str]:
-    """The programs that are built, by their names."""
+    """The programs that are proved and built, by their names."""
     return {name: path for name, path in (("giop", PROGRAM), ("lemonrudder", RELAY)) if os.path.exists(path)}
 
 
@@ -137,38 +92,30 @@ def package_files() -> dict[str, str]:
 # ---- the tarball ----
 
 
-def make_tarball(prefix: str, folder: str) -> str:
+def make_tarball(made: Made, folder: str) -> str:
     """A tarball of library, headers, backend for IDL, programs, manual pages and completions, which may be unpacked
     anywhere."""
-    name = f"{NAME}-{VERSION}-{TRIPLET}"
+    name = f"{NAME}-{made.version}-{TRIPLET}"
     path = os.path.join(folder, f"{name}.tar.gz")
     with tempfile.TemporaryDirectory() as work:
         top = os.path.join(work, name)
         for part in ("lib", "include"):
-            shutil.copytree(os.path.join(prefix, part), os.path.join(top, part), symlinks=True)
+            shutil.copytree(os.path.join(made.prefix, part), os.path.join(top, part), symlinks=True)
         copy_runtimes(top)
         for name, text in package_files().items():
             put(f"{top}/lib/{name}", text.encode())
         copy_sources(library.IDL, f"{top}/share/{NAME}/idl/{NAME}")
-        for program, source in programs().items():
+        for program, source in made.programs.items():
             copy_program(source, program, top)
         for document in DOCUMENTS:
             copy(os.path.join(ROOT, document), f"{top}/share/doc/{NAME}/{document}")
-        put(f"{top}/share/doc/{NAME}/TOOLCHAIN", toolchain().encode())
+        put(f"{top}/share/doc/{NAME}/TOOLCHAIN", made.toolchain().encode())
         packed = io.BytesIO()
         with tarfile.open(fileobj=packed, mode="w", format=tarfile.PAX_FORMAT) as tar:
             for each in sorted(paths_below(top)):
                 tar.add(each, os.path.relpath(each, work), recursive=False, filter=as_packed)
         put(path, compressed(packed.getvalue()))
     return path
-
-
-def paths_below(top: str) -> list[str]:
-    """A folder, and all that is in it."""
-    found = [top]
-    for below, folders, files in os.walk(top):
-        found += [os.path.join(below, name) for name in (*folders, *files)]
-    return found
 
 
 def as_packed(entry: tarfile.TarInfo) -> tarfile.TarInfo:
@@ -196,10 +143,10 @@ class Debian:
     # the folder of its modules in Python
     modules: str = ""
 
-    def control(self, size: int) -> str:
+    def control(self, size: int, version: str) -> str:
         short, long = TEXT[self.text]
-        said_of = "".join(f"{name}: {value}\n" for name, value in self.fields.items())
-        return (f"Package: {self.name}\nSource: {NAME}\nVersion: {VERSION}-1\nArchitecture: {self.architecture}\n"
+        said_of = "".join(f"{name}: {value.format(version=version)}\n" for name, value in self.fields.items())
+        return (f"Package: {self.name}\nSource: {NAME}\nVersion: {version}-1\nArchitecture: {self.architecture}\n"
                 f"Maintainer: {WHO}\nInstalled-Size: {size}\n{said_of}Section: {self.section}\nPriority: optional\n"
                 f"{HOMEPAGE}Description: {short}\n {long}\n")
 
@@ -216,7 +163,7 @@ PACKAGES = [
     Debian(LIBRARY_PACKAGE, "library", "libs", shlibs=f"lib{NAME} {SERIES} {LIBRARY_PACKAGE} (>= {VERSION})\n",
            fields={"Multi-Arch": "same", "Depends": LIBC, "Provides": f"lib{NAME}{VERSION.partition('.')[0]}"}),
     Debian(f"lib{NAME}-dev", "dev", "libdevel",
-           fields={"Multi-Arch": "same", "Depends": f"{LIBRARY_PACKAGE} (= {VERSION}-1)"}),
+           fields={"Multi-Arch": "same", "Depends": f"{LIBRARY_PACKAGE} (= {{version}}-1)"}),
     Debian(f"python3-{NAME}", "python", "python", "all", modules=MODULES,
            fields={"Depends": f"python3 (>= 3.8), {LIBRARY_PACKAGE} (>= {VERSION})"}),
     Debian(f"{NAME}-idl", "idl", "devel", "all", modules=BACKEND,
@@ -225,10 +172,10 @@ PACKAGES = [
 ]
 
 
-def fill(package: Debian, top: str, prefix: str) -> bool:
+def fill(package: Debian, top: str, parts: Made) -> bool:
     """Puts what a package has below a folder; answers whether there is anything."""
-    lib, made = f"{top}/usr/lib/{TRIPLET}", os.path.join(prefix, "lib")
-    found = programs()
+    lib, made = f"{top}/usr/lib/{TRIPLET}", os.path.join(parts.prefix, "lib")
+    found = parts.programs
     if package.text in ("giop", "relay"):
         name = "giop" if package.text == "giop" else "lemonrudder"
         if name not in found:
@@ -244,7 +191,7 @@ def fill(package: Debian, top: str, prefix: str) -> bool:
         subprocess.run(["strip", "--strip-unneeded", f"{lib}/lib{NAME}.so.{VERSION}"], check=True)
         os.symlink(f"lib{NAME}.so.{VERSION}", f"{lib}/{library.SONAME}")
     elif package.text == "dev":
-        shutil.copytree(os.path.join(prefix, "include"), f"{top}/usr/include")
+        shutil.copytree(os.path.join(parts.prefix, "include"), f"{top}/usr/include")
         copy_runtimes(f"{top}/usr")
         fill_dev(lib, made)
     elif package.text == "idl":
@@ -272,19 +219,19 @@ def deeper(text: str) -> str:
     return text
 
 
-def finish(package: Debian, top: str) -> None:
+def finish(package: Debian, top: str, parts: Made) -> None:
     """Documents of a package, and its control files."""
     documents = f"{top}/usr/share/doc/{package.name}"
     when = said("date", "-u", "-R", "-d", f"@{moment()}").strip()
-    log = f"{NAME} ({VERSION}-1) unstable; urgency=medium\n\n  * Release {VERSION}.\n\n -- {WHO}  {when}\n"
+    log = f"{NAME} ({parts.version}-1) unstable; urgency=medium\n\n  * Release {parts.version}.\n\n -- {WHO}  {when}\n"
     put(f"{documents}/changelog.Debian.gz", compressed(log.encode()))
     put(f"{documents}/copyright", COPYRIGHT.encode())
-    put(f"{documents}/TOOLCHAIN", toolchain().encode())
+    put(f"{documents}/TOOLCHAIN", parts.toolchain().encode())
     files = sorted(path for path in paths_below(top) if os.path.isfile(path) and not os.path.islink(path))
     sums = [f"{hashlib.md5(octets_of(path)).hexdigest()}  {os.path.relpath(path, top)}\n" for path in files]
     size = (sum(os.path.getsize(path) for path in files) + 1023) // 1024
     put(f"{top}/DEBIAN/md5sums", "".join(sums).encode())
-    put(f"{top}/DEBIAN/control", package.control(size).encode())
+    put(f"{top}/DEBIAN/control", package.control(size, parts.version).encode())
     if package.shlibs:
         put(f"{top}/DEBIAN/shlibs", package.shlibs.encode())
         put(f"{top}/DEBIAN/triggers", b"activate-noawait ldconfig\n")
@@ -292,16 +239,16 @@ def finish(package: Debian, top: str) -> None:
         put(f"{top}/DEBIAN/prerm", PRERM.format(modules=package.modules).encode(), 0o755)
 
 
-def make_debian(prefix: str, folder: str) -> list[str]:
+def make_debian(parts: Made, folder: str) -> list[str]:
     """The Debian packages of what there is."""
     made = []
     for package in PACKAGES:
         with tempfile.TemporaryDirectory() as top:
             os.chmod(top, 0o755)
-            if not fill(package, top, prefix):
+            if not fill(package, top, parts):
                 continue
-            finish(package, top)
-            path = os.path.join(folder, f"{package.name}_{VERSION}-1_{package.architecture}.deb")
+            finish(package, top, parts)
+            path = os.path.join(folder, f"{package.name}_{parts.version}-1_{package.architecture}.deb")
             said("dpkg-deb", "--root-owner-group", "-Zxz", "--build", top, path,
                  env={**os.environ, "SOURCE_DATE_EPOCH": str(moment())})
             made.append(path)
@@ -337,7 +284,7 @@ def python_with_wheel() -> str | None:
     return None
 
 
-def make_wheel(prefix: str, folder: str) -> str | None:
+def make_wheel(parts: Made, folder: str) -> str | None:
     """A wheel with the shared library in it, or None where no Python here makes wheels. The library takes of the C
     library only what that of Debian 12 and all later ones have."""
     python = python_with_wheel()
@@ -348,10 +295,13 @@ def make_wheel(prefix: str, folder: str) -> str | None:
         shutil.copytree(os.path.join(ROOT, "bindings", "python"), source,
                         ignore=shutil.ignore_patterns("__pycache__", "build", "*.egg-info"))
         shared = f"{source}/{NAME}/lib{NAME}.so"
-        copy(os.path.join(prefix, "lib", f"lib{NAME}.so.{VERSION}"), shared)
+        copy(os.path.join(parts.prefix, "lib", f"lib{NAME}.so.{VERSION}"), shared)
         subprocess.run(["strip", "--strip-unneeded", shared], check=True)
         put(f"{source}/setup.py", SETUP.format(platform="manylinux_2_34_x86_64").encode())
-        put(f"{source}/{NAME}/TOOLCHAIN", toolchain().encode())
+        put(f"{source}/{NAME}/TOOLCHAIN", parts.toolchain().encode())
+        project = f"{source}/pyproject.toml"
+        named = octets_of(project).replace(f'version = "{VERSION}"'.encode(), f'version = "{parts.version}"'.encode())
+        put(project, named)
         made = os.path.join(work, "made")
         said(python, "-m", "pip", "wheel", "-q", "--no-index", "--no-deps", "--no-build-isolation",
              "--disable-pip-version-check", "-w", made, source, stderr=subprocess.STDOUT,
@@ -386,14 +336,33 @@ def packed(crate: str, target: str, prefix: str, *words: str) -> str:
     return os.path.join(target, "package", f"{crate}-{VERSION}.crate")
 
 
-def make(prefix: str, folder: str) -> list[str]:
-    """Makes all packages of an installed library, and their sums, in a folder. Answers their paths."""
+def make(prefix: str, folder: str, given: dict[str, str] | None = None, is_unproved: bool = False) -> list[str]:
+    """Makes all packages of an installed library and of these programs, or those that are proved and built, and their
+    sums, in a folder. Answers their paths. A library that is not proved is refused unless that is asked for."""
+    parts = Made(prefix, programs() if given is None else given)
+    if not parts.is_proved() and not is_unproved:
+        raise NotProved(f"the library in {prefix} is not proved: --unproved packs it, under names that say so")
     os.makedirs(folder, exist_ok=True)
-    made = [make_tarball(prefix, folder)]
+    made = [make_tarball(parts, folder)]
     if shutil.which("dpkg-deb"):
-        made += make_debian(prefix, folder)
-    made += [it for it in [make_wheel(prefix, folder)] if it]
+        made += make_debian(parts, folder)
+    made += [it for it in [make_wheel(parts, folder)] if it]
     made += make_crates(prefix, folder)
     sums = [f"{hashlib.sha256(octets_of(path)).hexdigest()}  {os.path.basename(path)}\n" for path in made]
     put(os.path.join(folder, "SHA256SUMS"), "".join(sums).encode())
     return [*made, os.path.join(folder, "SHA256SUMS")]
+
+
+def main(prefix: str, folder: str) -> int:
+    """Builds the relay over the library below a folder, where what it wants is there, and packs all."""
+    if shutil.which("cargo") is None or relay.lacking():
+        print("the relay is left out: it is not built here")
+    elif relay.build(os.path.join(prefix, "lib")) is None:
+        return 1
+    for path in make(prefix, folder):
+        print(path)
+    return 0
+
+
+if __name__ == "__main__":
+    sys.exit(main(*sys.argv[1:]))

@@ -3,7 +3,8 @@
     <!-- made of: PATH -->                  the file
     <!-- made of: PATH NAME -->             what declares NAME, with the comment before it: a function, a type, a
                                             definition, a `ghost` line; or `impl ..`, in these words; in C and C++ a
-                                            function; in Python a function or a class
+                                            function; in Python a function or a class; or `ensures ..`, a clause,
+                                            without the comment before it
     <!-- made of: PATH NAME to NAME -->     from the first of these to the end of the last
 
 Such a mark stands before a block of code, and `<!-- end -->` after it. What stands between them is written by
@@ -27,6 +28,8 @@ def head_of(lines: list[str], name: str, language: str) -> int:
     word = re.escape(name)
     if language == "python":
         head = re.compile(rf"^ *(?:(?:async )?def|class) {word}\b")
+    elif name.startswith("ensures "):
+        head = re.compile(rf"^ *{word} {{")
     elif language in ("c", "cpp"):
         head = re.compile(rf"^ *(?!return)(?:{TYPE})+{word}\(.*{{$")
     else:
@@ -37,10 +40,14 @@ def head_of(lines: list[str], name: str, language: str) -> int:
     return found[0]
 
 
+def is_clause(line: str) -> bool:
+    return line.lstrip().startswith("ensures ")
+
+
 def first_of(lines: list[str], head: int) -> int:
     """Where the comment and the attributes before a head begin."""
     first = head
-    while first and lines[first - 1].lstrip().startswith(("//", "#[", "--", "/* ", "* ")):
+    while first and not is_clause(lines[head]) and lines[first - 1].lstrip().startswith(("//", "#[", "--", "/* ", "* ")):
         first -= 1
     return first
 
@@ -53,6 +60,8 @@ def last_of(lines: list[str], head: int, language: str) -> int:
         inner = [index for index in range(head + 1, len(lines)) if lines[index].strip()]
         end = next((index for index in inner if not lines[index].startswith(indent + " ")), len(lines))
         return max(index for index in inner if index < end)
+    if is_clause(lines[head]):
+        return next(index for index in range(head, len(lines)) if not lines[index + 1].startswith(indent + " "))
     if lines[head].endswith((";", "{}")):
         return head
     is_definition = " : " in lines[head] and not re.search(r"\bfn\b", lines[head])

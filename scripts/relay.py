@@ -5,11 +5,19 @@ import json
 import os
 import shutil
 import subprocess
+import sys
 
 from scripts.crates import ROOT
 
 SOURCES = os.path.join(ROOT, "relay")
 TARGET = os.path.join(ROOT, "out", "relay")
+
+
+def target_of(prefix):
+    """Where the program is built over a library below a folder."""
+    return os.path.join(prefix, "relay")
+
+
 PROGRAM = "lemonrudder"
 # where Debian's packages put crates, and the packages of those that relay/Cargo.toml names
 REGISTRY = "/usr/share/cargo/registry"
@@ -51,3 +59,17 @@ def install(program, prefix, destdir=""):
     os.makedirs(os.path.dirname(path), exist_ok=True)
     shutil.copy2(program, path)
     return path
+
+
+def main(prefix):
+    """Builds the program for tests over the library below a folder, and answers the status. Without what it wants it says
+    so: then the tests of it are not run."""
+    lacks = lacking() if shutil.which("cargo") else ["cargo"]
+    if lacks:
+        print(f"the relay wants {', '.join(lacks)}")
+        return 0
+    return 0 if build(os.path.join(prefix, "lib"), target_of(prefix), is_release=False) else 1
+
+
+if __name__ == "__main__":
+    sys.exit(main(os.path.abspath(sys.argv[1])))

@@ -16,6 +16,8 @@ __unittest = True
 SECONDS = 60
 # what `./test -k` chose, or None: a test that has it in its name is run whole, of any other test the parts that have it
 WORD: str | None = None
+# which share of the parts is run, and of how many: (0, 1) is all
+SHARE: tuple[int, int] = (0, 1)
 # the first seed of the random tests, where it is not their own
 FIRST_SEED: int | None = None
 
@@ -45,6 +47,7 @@ def each(parts: Callable[[], Iterable[Part]], at_once: int = 1) -> Callable:
         def test(self: unittest.TestCase) -> None:
             some = chosen(self.id(), parts())
             self.assertTrue(some, "it has no part")
+            some = some[SHARE[0]::SHARE[1]]
             with ThreadPoolExecutor(at_once) as pool:
                 for (name, _), fault in zip(some, pool.map(lambda part: ended(judge, self, part[1]), some)):
                     with self.subTest(name):

@@ -12,7 +12,8 @@ import os
 import re
 import unittest
 
-from scripts import contracts
+from scripts import contracts, items
+from scripts.items import owner_of
 
 ROOT = os.path.dirname(os.path.dirname(os.path.abspath(__file__)))
 # the most octets of a page, and of all that is written by hand together
@@ -28,6 +29,16 @@ PAGES_OF_CRATES = 26_000
 # the most lines of the list that a reader begins with, and of a source
 FIRST_LIST = 450
 LINES = 400
+# the lines below which the body of a function is, but for these: tables, and what would be no clearer in parts
+LINES_OF_FUNCTION = 40
+LONG = {
+    "crates/ft_log/src/system_exception.rt": {"SystemName::repository_id", "<SystemName as fmt::Display>::fmt"},
+    "crates/ft_orb/src/deeds.rt": {"do_deed"},
+    "crates/ft_orb/src/feeding.rt": {"Engine::feed_within"},
+    "crates/ft_orb/src/keeper.rt": {"Keeper::begin_keyed"},
+    "crates/lemonrudder/src/named.rt": {"system_name_of", "number_of_system_name"},
+    "crates/uses_tests/src/durable.rt": {"a_ticket_is_given_once_over_three_lives"},
+}
 CONTRACTS = "docs/contracts"
 PATH = r"`((?:crates|tests|docs|examples|bench|bindings|embed|scripts)/[\w./]+)`"
 
@@ -127,21 +138,20 @@ def clauses_at(file: str, line: int) -> list[tuple[str, str]]:
 def wrong_bodies(crate: str) -> list[str]:
     """The names of a crate's wrong bodies: those in its files, and those that are a file of their own."""
     named = [name for file in files(".edits") if file.startswith(f"crates/{crate}/wrong_bodies/")
-             for name in re.findall(r"^  (?:must-fail/)?(\w+): ", text_of(file), re.M) if name != "none"]
+             for name in re.findall(r"^  (?:always/)?(\w+): ", text_of(file), re.M) if name != "none"]
     alone = [os.path.basename(file)[:-5] for file in files(".edit") if file.startswith(f"crates/{crate}/")]
     return named or alone
 
 
 def public_functions(crate: str) -> list[str]:
-    """The functions that a crate's lib.rt hands out, by themselves or with their type, and those that C calls."""
-    lines = re.findall(r"^pub use \w+::([^;]*);", text_of(f"crates/{crate}/src/lib.rt"), re.M)
+    """The functions that a crate's lib.rt hands out, by themselves or with their type."""
+    lines = re.findall(r"^pub use (?:\w+::)+([^;]*);", text_of(f"crates/{crate}/src/lib.rt"), re.M)
     handed = set(re.findall(r"\w+", " ".join(lines)))
     sources = "\n".join(text_of(name) for name in files(".rt") if name.startswith(f"crates/{crate}/src/"))
-    exported = re.findall(r'^pub extern "C" fn (\w+)', sources, re.M)
     methods = []
     for name, body in re.findall(r"^impl(?:<[^\n]*?>)? (\w+)(?:<[^\n]*>)? \{\n(.*?)^\}", sources, re.M | re.S):
         methods += [f"{name}::{function}" for function in re.findall(r"^    pub fn (\w+)", body, re.M) if name in handed]
-    return exported + methods + [name for name in handed if re.search(rf"^pub fn {name}\b", sources, re.M)]
+    return methods + [name for name in handed if re.search(rf"^pub fn {name}\b", sources, re.M)]
 
 
 # ------------------------------------------------------------------------------------------------ links
@@ -380,6 +390,19 @@ class Sizes(unittest.TestCase):
             if re.match(r"crates/(?!\w+_tests/)\w+/(src|specs)/|scripts/", name):
                 with self.subTest(name):
                     self.assertLessEqual(text_of(name).count("\n"), LINES)
+
+    def test_functions(self):
+        for name in files(".rt"):
+            if re.match(r"crates/\w+/src/", name):
+                with self.subTest(name):
+                    self.assertEqual(long_functions(name), LONG.get(name, set()))
+
+
+def long_functions(name: str) -> set[str]:
+    """The functions of a source whose bodies have too many lines."""
+    owned = [(f"{owner_of(item)}::" if item.inner else "", item) for item in items.items_of(name)]
+    functions = [(owner, it) for owner, item in owned for it in item.inner or [item] if it.kind == "fn"]
+    return {owner + it.name for owner, it in functions if len(it.body) >= LINES_OF_FUNCTION}
 
 
 if __name__ == "__main__":

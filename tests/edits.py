@@ -16,8 +16,8 @@ A file goes through the functions of its source, in their order. What it has, by
 
 A function is named as in Rust: `name`, `Type::name`, `<Type as Trait>::name`. A TEXT is the rest of its line, and `old`
 stands once in the source, or once in the function; further pairs apply to what the earlier ones made. A pair of another
-source has a line `file: src/OTHER.rt` before it. Before a name, `must-fail/` says that the pairs stand in the crate's
-must-fail/NAME.edit, in the form of `rt ci`. The line `refused by` is written by tests/wrong_bodies.py --write.
+source has a line `file: src/OTHER.rt` before it. Before a name, `always/` says that it is tried in each run: those of the
+headline. The line `refused by` is written by tests/wrong_bodies.py --write.
 """
 import argparse
 import glob
@@ -34,7 +34,8 @@ MOST = 70
 # the libraries: each of their public calls has a wrong body, or a word why not
 LIBRARIES = ("cdr_core", "ior_core", "corbaloc", "giop_core", "giop_frames", "giop_link", "ft_log", "ft_client",
              "ft_objects", "ft_orb", "ft_ends", "ft_lives", "ft_tcp", "digits", "counter", "giop_text",
-             "giop_types", "giop_run", "giop_tap", "giop_lines", "giop_trace", "lemonrudder", "uses")
+             "giop_types", "giop_run", "giop_tap", "giop_lines", "giop_trace", "lemonrudder",
+             "lemonrudder_c", "uses")
 
 
 class Pair(NamedTuple):
@@ -54,7 +55,7 @@ class Edit:
     wrong: str
     pairs: list[Pair]
     refused_by: Optional[str] = None
-    in_gate: bool = False
+    is_always: bool = False
     comments: list[str] = field(default_factory=list)
 
     def applied(self, texts: dict[str, str]) -> tuple[Optional[dict[str, str]], Optional[str]]:
@@ -209,7 +210,7 @@ class Reader:
 
     def read(self, line: str):
         head = re.fullmatch(r"fn (\S.*\S|\S)", line)
-        item = re.fullmatch(r"  ((?:must-fail/)?\w+): (\S.*)", line)
+        item = re.fullmatch(r"  ((?:always/)?\w+): (\S.*)", line)
         part = re.fullmatch(r"    (file|old|new|refused by):(?: (.*))?", line)
         if re.match(r" *#", line):
             self.comments.append(line.strip())
@@ -230,30 +231,12 @@ class Reader:
         if name == "none":
             section.reason, section.reason_comments = said, self.taken()
             return
-        edit = Edit(self.crate, self.source, section.function, name.removeprefix("must-fail/"), said, [],
-                    in_gate=name.startswith("must-fail/"), comments=self.taken())
-        if edit.in_gate:
-            edit.pairs = self.pairs_in_gate(edit.name)
-        section.edits.append(edit)
-
-    def pairs_in_gate(self, name: str) -> list[Pair]:
-        """The pairs of an edit in the form of `rt ci`."""
-        try:
-            text = text_of(f"{ROOT}/crates/{self.crate}/must-fail/{name}.edit")
-        except OSError:
-            self.refuse(f"there is no must-fail/{name}.edit")
-        pairs, path, old = [], "", ""
-        for line in text.split("\n"):
-            what, _, said = line.partition(":")
-            said = said.removeprefix(" ")
-            path, old = (said if what == "file" else path), (said if what == "old" else old)
-            if what == "new":
-                pairs.append(Pair(path, old, said))
-        return pairs
+        section.edits.append(Edit(self.crate, self.source, section.function, name.removeprefix("always/"), said, [],
+                                  is_always=name.startswith("always/"), comments=self.taken()))
 
     def read_part(self, edit: Edit, what: str, said: str):
-        if edit.refused_by is not None or edit.in_gate and what != "refused by":
-            self.refuse("a line after `refused by`, or a text of an edit that stands in must-fail")
+        if edit.refused_by is not None:
+            self.refuse("a line after `refused by`")
         if what == "refused by":
             if self.old is not None or self.path is not None or not said:
                 self.refuse("`refused by` follows the pairs, and says what refuses")
@@ -300,8 +283,8 @@ def written(sections: list[Section], tail: list[str]) -> str:
             lines += [f"  {it}" for it in section.reason_comments] + [f"  none: {section.reason}"]
         for edit in section.edits:
             lines += [f"  {it}" for it in edit.comments]
-            lines.append(f"  {'must-fail/' if edit.in_gate else ''}{edit.name}: {edit.wrong}")
-            for path, old, new in () if edit.in_gate else edit.pairs:
+            lines.append(f"  {'always/' if edit.is_always else ''}{edit.name}: {edit.wrong}")
+            for path, old, new in edit.pairs:
                 lines += [f"    file: {path}"] if path != edit.source else []
                 lines += [f"    old: {old}", f"    new: {new}" if new else "    new:"]
             lines += [f"    refused by: {edit.refused_by}"] if edit.refused_by else []
@@ -343,7 +326,7 @@ def exported(crate: str) -> tuple[set[str], set[str]]:
     """What the root of a library hands out: names of items, and of modules."""
     root = text_of(f"{ROOT}/crates/{crate}/src/lib.rt")
     names: set[str] = set()
-    for one, several in re.findall(r"^pub use \w+::(?:(\w+)|\{([^}]*)\});", root, re.M):
+    for one, several in re.findall(r"^pub use (?:\w+::)+(?:(\w+)|\{([^}]*)\});", root, re.M):
         names |= {one} if one else set(re.findall(r"\w+", several))
     return names, set(re.findall(r"^pub mod (\w+);", root, re.M))
 
@@ -391,9 +374,6 @@ def faults_of(crate: str) -> Iterator[str]:
                     yield f"{where}: {edit.name} is also in {seen[edit.name]}"
                 seen[edit.name] = file
                 yield from (f"{where}: {edit.name}: {why}" for why in faults_of_edit(edit, functions))
-    in_gate = {os.path.basename(it)[:-len(".edit")] for it in glob.glob(f"{ROOT}/crates/{crate}/must-fail/*.edit")}
-    for name in sorted(in_gate - {it.name for it in edits_of(crate) if it.in_gate}):
-        yield f"crates/{crate}/must-fail/{name}.edit: no file of edits has its function"
 
 
 def faults_of_edit(edit: Edit, functions: dict[str, Function]) -> Iterator[str]:

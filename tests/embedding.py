@@ -33,7 +33,7 @@ from tests.giop import (
     CLOSE_CONNECTION, MAYBE, MESSAGE_ERROR, NO, USER_EXCEPTION, Reference, reference_of, reply, system_exception,
 )
 from tests.giop_peers import SECONDS, Peer, Wrong, ask, number_body, request, until, want
-from tests.programs import ROOT
+from tests.programs import ROOT, UNPROVED
 
 EMBED = os.path.join(ROOT, "tests", "embed")
 EXAMPLES = os.path.join(ROOT, "examples")
@@ -299,16 +299,17 @@ def all_of(folder: str) -> list[str]:
 
 def packages_are_made_below_a_root(kit: Kit) -> None:
     """With a root all is put below it, and nothing says where that was."""
-    if not os.path.exists(library.ARCHIVE):
+    archive = next(filter(os.path.exists, (library.ARCHIVE, os.path.join(UNPROVED, f"{library.CRATE}.a"))), None)
+    if archive is None:
         raise programs.missing(f"there is no {os.path.relpath(library.ARCHIVE, ROOT)}")
     for root in (os.path.join(kit.work, "some-root"), os.path.join(kit.work, "some-root-anew") + "/"):
-        library.install("/opt/some", root)
+        library.install("/opt/some", root, archive, is_proved=archive == library.ARCHIVE)
         made = os.path.join(root, "opt", "some")
         want(os.listdir(root), ["opt"])
         want(all_of(made), sorted([
             "include/lemonrudder.h", "include/lemonrudder.hpp", "include/lemonrudder_loop.hpp",
             "lib/liblemonrudder.a", "lib/liblemonrudder.so", f"lib/{library.SONAME}",
-            f"lib/liblemonrudder.so.{library.VERSION}", "lib/pkgconfig/lemonrudder.pc", *library.RUNTIMES,
+            f"lib/liblemonrudder.so.{library.VERSION}", "lib/pkgconfig/lemonrudder.pc", library.NOTE, *library.RUNTIMES,
             *(f"lib/cmake/lemonrudder/lemonrudder-{name}.cmake" for name in ("config", "config-version"))]))
         for name in all_of(made):
             with open(os.path.join(made, name), "rb") as file:

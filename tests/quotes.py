@@ -106,19 +106,19 @@ class Code(unittest.TestCase):
                     self.assertTrue(blocks_of(name, "rust"))
 
     def test_clauses(self):
-        quoted = re.findall(r"^```text\n(ensures .*?)^```$", text_of(PROMISES), re.M | re.S)
+        quoted = re.findall(r"^```rust\n( *ensures .*?)^```$", text_of(PROMISES), re.M | re.S)
         self.assertTrue(quoted)
         for block in quoted:
             with self.subTest(block.split("\n")[0]):
                 self.assertIn(" ".join(block.split()), " ".join(code().split()))
 
     def test_words_of_the_headline(self):
-        table = text_of(PROMISES).split("| Word | In plain words | File |\n")[1].split("\n\n")[0]
+        table = text_of(PROMISES).split("| Word | In plain words | In `crates/ft_orb/specs` |\n")[1].split("\n\n")[0]
         rows = re.findall(r"^\| `(\w+)` \|.*\| `([\w./]+)` \|$", table, re.M)
         self.assertGreater(len(rows), 10)
         for word, file in rows:
             with self.subTest(word):
-                self.assertRegex(text_of(file), rf"\bpub (?:data |record )?{word}\b")
+                self.assertRegex(text_of(f"crates/ft_orb/specs/{file}"), rf"\bpub (?:data |record )?{word}\b")
 
 
 class Words(unittest.TestCase):
@@ -151,6 +151,14 @@ class Words(unittest.TestCase):
         for page, word in said:
             with self.subTest(page):
                 self.assertEqual(word.lower(), NUMBERS[count])
+
+    def test_crates_that_cite_lemmas(self):
+        cited = {(name.split("/")[1], other) for name in files(".antt")
+                 for other in re.findall(r"^use Rattle\.(\w+)\.proofs\b", text_of(name), re.M)}
+        crates = {crate for crate, other in cited if other in clauses.listed() and other != crate}
+        said = re.search(r"(\w+) cite lemmas of these too: (.*)\.\n", text_of("docs/ARCHITECTURE.md"))
+        self.assertEqual(set(re.findall(r"`(\w+)`", said[2])), crates)
+        self.assertEqual(said[1].lower(), NUMBERS[len(crates)])
 
     def test_clauses_of_the_standards_are_spelled_in_one_way(self):
         for name in clauses.sources():

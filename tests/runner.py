@@ -1,6 +1,7 @@
 """Runs tests of this package, and counts them: python3 -m tests.runner [-k NAME] [--list] [--random MINUTES] [MODULE..]
 
-Without MODULE it is about all of MODULES. With -k, what has NAME in its name is run: modules, classes and methods, and
+Without MODULE it is about all of MODULES. MODULE may be one class of a module, or a share of either: MODULE#2/3 is the
+second of three, in which each class without parts is run once and each test of parts runs every third part. With -k, what has NAME in its name is run: modules, classes and methods, and
 of other methods the cases, rows and seeds that have it. With --list nothing is run: each module, class and method is
 printed on a line, with the number of its parts and the first sentence that it says of itself. With --random the random
 tests are run, with seeds that are new and printed, one after another until so many minutes have passed.
@@ -23,7 +24,7 @@ from collections.abc import Iterator
 
 from tests import base, programs
 
-# what is about the programs of `rt ci`, and about the library for C
+# what is about programs, and about the library for C
 OF_PROGRAMS = [
     "tests.cases", "tests.rows", "tests.readings", "tests.locations", "tests.inputs", "tests.made_pages", "tests.trace",
     "tests.typed", "tests.captures", "tests.serve", "tests.schedules", "tests.engine", "tests.deeds",
@@ -34,9 +35,26 @@ OF_LIBRARY = [
     "tests.embed.store_test", "tests.embed.durable_test", "tests.embed.rust_test",
     "tests.relay.guard_test", "tests.relay.retry_test", "tests.relay.orbs_test", "tests.relay.hostile_test",
     "tests.relay.operation_test", "tests.relay.guards_test",
-    "tests.embed.idl_test", "tests.embed.idl_c_test", "tests.embed.idl_rust_test", "tests.embed.packages_test",
+    "tests.embed.idl_test", "tests.embed.idl_c_test", "tests.embed.idl_rust_test", "tests.embed.idl_stubs_test",
+    "tests.embed.idl_files_test", "tests.embed.objects_test", "tests.embed.naming_test", "tests.embed.packages_test",
     "tests.relay.store_test",
 ]
+
+
+# what takes long, and may be run in so many shares side by side
+SHARES = {"tests.embedding": 4, "tests.embed.python_test": 2, "tests.embed.idl_test": 2, "tests.embed.durable_test": 2,
+          "tests.refused_allocations": 2}
+
+
+def needs_of(module: str) -> list[str]:
+    """What has to be made before a module is run: the crates of the programs that its text names, the library, the
+    relay."""
+    if module in OF_LIBRARY:
+        needed = ["relay"] if module.startswith("tests.relay") else ["library"]
+        return ["relay", "giop_tool"] if module.endswith(".packages_test") else needed
+    with open(os.path.join(programs.ROOT, *module.split(".")) + ".py", encoding="utf-8") as file:
+        named = re.findall(r'"([A-Z_]+)"', file.read())
+    return [programs.CRATES[name] for name in programs.CRATES if name in named]
 
 
 def modules_of_tests() -> Iterator[str]:
@@ -72,7 +90,8 @@ class Counted(unittest.TextTestResult):
 
     def addSuccess(self, test: unittest.TestCase) -> None:
         super().addSuccess(test)
-        self.passed += 1
+        # (in another share than the first only its parts count)
+        self.passed += base.SHARE[0] == 0 or parts_of(test) is None
 
     def addError(self, test: unittest.TestCase, err: tuple) -> None:
         super().addError(test, err)
@@ -153,6 +172,13 @@ def tests_of(modules: list[str]) -> list[unittest.TestCase]:
     return [test for module in modules for test in tests_in(module)]
 
 
+def shared(tests: list[unittest.TestCase]) -> list[unittest.TestCase]:
+    """Of these tests those of the share that is run: each class is of one share, but for its tests with parts."""
+    at, count = base.SHARE
+    classes = {kind: number for number, kind in enumerate(dict.fromkeys(map(type, tests)))}
+    return [test for test in tests if classes[type(test)] % count == at or parts_of(test) is not None]
+
+
 def is_chosen(test: unittest.TestCase) -> bool:
     """Whether a test, or one of its parts, has what -k chose in its name."""
     return base.WORD in test.id() or any(base.WORD in name for name, _ in parts_of(test) or [])
@@ -231,7 +257,7 @@ def run_random(modules: list[str], minutes: float) -> int:
 
 def run_chosen(modules: list[str]) -> int:
     """Runs the tests of modules, or those that -k chose, and answers the status."""
-    result = run([test for test in tests_of(modules) if base.WORD is None or is_chosen(test)])
+    result = run(shared([test for test in tests_of(modules) if base.WORD is None or is_chosen(test)]))
     print(f"{result.passed} passed, {result.failed} failed")
     return 0 if result.has_run() and not result.failed else 1
 
@@ -244,6 +270,10 @@ def main() -> int:
     parser.add_argument("modules", nargs="*", metavar="MODULE")
     given = parser.parse_args()
     modules = given.modules or MODULES
+    if "#" in modules[0]:
+        modules = [modules[0].partition("#")[0]]
+        at, _, count = given.modules[0].partition("#")[2].partition("/")
+        base.SHARE = (int(at) - 1, int(count))
     if given.list:
         say_of_modules(modules)
         return 0

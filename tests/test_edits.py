@@ -52,10 +52,11 @@ class OfTheGrammar(unittest.TestCase):
     WHOLE = "fn new\n  is_one: it counts one\n    old: 0\n    new: 1\n    refused by: ensures `is`\n"
 
     def test_reads_what_is_written(self):
-        text = ("# a\nfn new\n  # b\n  is_one: it counts one\n    file: src/b.rt\n    old:  0\n    new:\n\n"
+        text = ("# a\nfn new\n  # b\n  always/is_one: it counts one\n    file: src/b.rt\n    old:  0\n    new:\n\n"
                 "fn <A as B>::c\n  none: why\n")
         reader = Reader("x", "src/a.rt", text)
-        self.assertEqual(reader.sections[0].edits[0].pairs, [Pair("src/b.rt", " 0", "")])
+        edit = reader.sections[0].edits[0]
+        self.assertEqual((edit.name, edit.is_always, edit.pairs), ("is_one", True, [Pair("src/b.rt", " 0", "")]))
         self.assertEqual((reader.sections[1].function, reader.sections[1].reason), ("<A as B>::c", "why"))
         self.assertEqual(written(reader.sections, reader.tail), text)
         self.assertEqual(Reader("x", "src/a.rt", self.WHOLE).sections[0].edits[0].refused_by, "ensures `is`")
@@ -68,7 +69,7 @@ class OfTheGrammar(unittest.TestCase):
             ("fn new\n  is_one: a\n    old: 0\n", 4), ("fn new\n  is_one: a\nfn b\n", 3),
             ("fn new\n  is_one: a\n    file: b.rt\n", 3), (self.WHOLE + "    refused by: ensures 1\n", 6),
             (self.WHOLE + "    old: 0\n", 6), ("fn new\n  is_one: a\n    refused: b\n", 3),
-            ("fn new\n  must-fail/is_one: a\n", 2), (self.WHOLE + "  none: why\n", 6),
+            ("fn new\n  never/is_one: a\n", 2), (self.WHOLE + "  none: why\n", 6),
             ("fn new\n  none: why\n  none: why\n", 3),
         ):
             with self.subTest(wrong), self.assertRaisesRegex(Fault, rf"^crates/x/wrong_bodies/a.edits:{line}: "):

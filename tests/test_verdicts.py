@@ -6,7 +6,7 @@ import unittest.mock
 
 from tests.edits import Edit, Pair, functions_of
 from tests.verdicts import NAMES_ONLY, PROVED, REFUSED, UNSURE, Result, Verdict, chief, closures_of, refusers
-from tests.wrong_bodies import OTHERWISE, UNSAID, Trials, all_edits, due, parts_of
+from tests.wrong_bodies import OTHERWISE, UNSAID, Trials, all_edits, due, only_of, parts_of
 
 CURSOR = "cdr_core::cursor::Cursor::"
 
@@ -168,6 +168,17 @@ class OfClosures(unittest.TestCase):
         known = ["t::fn::Pair::five::apply", "t::fn::Pair::five::apply+2", "t::fn::five::apply", "t::Pair::five"]
         self.assertEqual(closures_of("t::Pair::five", known), {known[0]: "apply", known[1]: "apply+2"})
         self.assertEqual(closures_of("t::five", known), {known[2]: "apply"})
+
+
+class OfNames(unittest.TestCase):
+    """By which name a check is asked for one function alone."""
+
+    def test_names(self):
+        for crate, source, function, name in (
+                ("cdr_core", "src/cursor.rt", "Cursor::boolean", "Cursor::boolean"),
+                ("cdr_core", "src/order.rt", "<Order as fmt::Display>::fmt", "order"),
+                ("digits", "src/reading.rt", "decode", "reading::decode")):
+            self.assertEqual(only_of(functions_of(crate, source)[function]), name)
 
 
 class OfTurns(unittest.TestCase):

@@ -2,12 +2,15 @@
 import contextlib
 import io
 import os
+import subprocess
+import sys
 import tempfile
+import time
 import types
 import unittest
 from unittest import mock
 
-from scripts import kit, library
+from scripts import kit, lanes, library
 from tests import base, programs, runner
 from tests.smaller import smallest
 
@@ -111,6 +114,72 @@ class Smaller(unittest.TestCase):
                 self.assertEqual(base.first_sentence(text), sentence)
 
 
+class Lanes(unittest.TestCase):
+    """Parts of a run, side by side."""
+
+    def setUp(self):
+        self.room = self.enterContext(tempfile.TemporaryDirectory())
+        self.enterContext(mock.patch.dict(os.environ, {"XDG_CACHE_HOME": self.room}))
+
+    def run_of(self, *parts, lanes_at_once=2):
+        """A run of parts, each a name, a line of shell and those that it waits for, and what it said."""
+        noted = os.path.join(self.room, "noted")
+        with open(noted, "w", encoding="utf-8") as file:
+            file.write("one 5\n")
+        made = [lanes.Part(name, ["sh", "-c", line], tuple(after), makes=name.startswith("make")) for name, line, *after in parts]
+        run, said = lanes.Run(made, lanes.Took(noted), lanes_at_once), io.StringIO()
+        with contextlib.redirect_stdout(said):
+            run.is_well = run.run()
+        return run, said.getvalue()
+
+    def test_counts(self):
+        """What passed and failed, by each part's last line; a part that only makes something counts nothing."""
+        run, said = self.run_of(("one", "echo 3 passed, 0 failed; echo not run: a: this needs b"), ("make", "exit 0"),
+                                ("two", "echo 4 passed, 2 failed; echo a reason; exit 1"))
+        self.assertEqual((run.is_well, run.count(), run.not_run), (False, (7, 2), ["not run: a: this needs b"]))
+        self.assertIn("== two\n4 passed, 2 failed\na reason\n", said)
+        self.assertEqual(len([line for line in said.splitlines() if "about" in line]), 3)
+
+    def test_order(self):
+        """A part waits for those that it stands on, and is not run where one of these failed."""
+        run, said = self.run_of(("three", "exit 9", "two"), ("two", "exit 9", "make it"), ("make it", "echo why; exit 1"))
+        self.assertEqual((run.is_well, run.count()), (False, (0, 3)))
+        self.assertIn("make it failed, and this stands on it", said)
+
+    def test_nothing(self):
+        """A part that ran nothing is a failure, unless it lacks a tool."""
+        for line, count in (("exit 0", 1), ("echo 0 passed, 0 failed", 1), ("echo 0 passed, 0 failed; echo 'not run: x: this needs y'", 0),
+                            ("echo 5 passed, 0 failed; exit 1", 1)):
+            with self.subTest(line):
+                self.assertEqual(self.run_of(("one", line))[0].count()[1], count)
+
+    def test_took(self):
+        """What a part took is known to the next run on this machine, and else by what is noted."""
+        run, _ = self.run_of(("one", "echo 1 passed, 0 failed"), ("two", "exit 1"))
+        later = lanes.Took(os.path.join(self.room, "noted"))
+        self.assertLess(later.of(run.parts[0]), 5)
+        self.assertEqual(later.of(run.parts[1]), lanes.UNKNOWN)
+
+    def test_interrupted(self):
+        """Told to end, it ends what it runs, and what that started."""
+        pids = os.path.join(self.room, "pids")
+        program = f"from tests.tools import Lanes\nit = Lanes()\nit.setUp()\nit.run_of(('one', 'sleep 50 & echo $! >{pids}; wait'))"
+        with subprocess.Popen([sys.executable, "-c", program], cwd=programs.ROOT, stderr=subprocess.DEVNULL) as run:
+            for _ in range(600):
+                if os.path.exists(pids) and os.path.getsize(pids):
+                    break
+                time.sleep(0.05)
+            run.terminate()
+            self.assertEqual(run.wait(timeout=20), 143)
+        with open(pids, encoding="ascii") as file:
+            path = f"/proc/{file.read().strip()}"
+        for _ in range(200):
+            if not os.path.exists(path):
+                return
+            time.sleep(0.05)
+        self.fail("what it started runs on")
+
+
 class Kept(unittest.TestCase):
     """The archive that an earlier run built."""
 
@@ -119,12 +188,11 @@ class Kept(unittest.TestCase):
         self.archive, self.built = os.path.join(self.room, "out", "lib.a"), 0
         self.write("src/lib.rt", "one")
         self.write("WHAT", "a kit")
-        crate = types.SimpleNamespace(name=library.LIBRARY, said={}, folder=self.room, below=lambda: [])
-        stand_in = types.SimpleNamespace(KIT=self.room, crates_below=lambda _: [crate],
-                                         files_of=lambda folder: [os.path.join(folder, "src", "lib.rt")])
-        for where, name, value in ((library, "ARCHIVE", self.archive), (library, "build", self.build),
-                                   (library, "load_kit", lambda: stand_in)):
-            self.enterContext(mock.patch.object(where, name, value))
+        crate = types.SimpleNamespace(name=library.CRATE, said={}, folder=self.room, below=lambda: [])
+        self.kit = types.SimpleNamespace(KIT=self.room, files_of=lambda folder: [os.path.join(folder, "src", "lib.rt")])
+        self.gate = types.SimpleNamespace(kit=self.kit, crates={library.CRATE: crate}, since=0)
+        for name, value in (("ARCHIVE", self.archive), ("build", self.build), ("BUILD", mock.Mock())):
+            self.enterContext(mock.patch.object(library, name, value))
         self.enterContext(mock.patch.dict(os.environ, {"XDG_CACHE_HOME": os.path.join(self.room, "cache")}))
 
     def write(self, name, text):
@@ -144,7 +212,7 @@ class Kept(unittest.TestCase):
     def made(self, **how):
         """What the archive holds once it is made."""
         with contextlib.redirect_stdout(io.StringIO()):
-            self.assertTrue(library.build_over_gate(0, **how))
+            self.assertTrue(library.build_over_gate(self.gate, **how))
         with open(self.archive, encoding="utf-8") as file:
             return file.read()
 
@@ -170,7 +238,7 @@ class Kept(unittest.TestCase):
         sums = set()
         for top in ("some", "some/other"):
             self.write(f"{top}/src/lib.rt", "one")
-            crate = types.SimpleNamespace(said={}, folder=os.path.join(self.room, top), below=lambda: [])
-            with mock.patch.object(kit, "ROOT", crate.folder):
-                sums.add(kit.sum_of(library.load_kit(), crate, []))
+            crate = types.SimpleNamespace(name="a", said={}, folder=os.path.join(self.room, top, "a"), below=lambda: [])
+            self.write(f"{top}/a/src/lib.rt", "one")
+            sums.add(kit.sum_of(self.kit, crate))
         self.assertEqual(len(sums), 1)

@@ -119,7 +119,7 @@ class Verdict:
         lines = said.rstrip("\n").split("\n")
         self.functions = dict(found.groups() for found in map(OF_FUNCTION.fullmatch, lines) if found)
         # (a check that ended has a verdict on the whole in its last line)
-        self.ended = lines[-1].startswith("logic=") and bool(self.functions)
+        self.ended = lines[-1].startswith(("logic=", "only=")) and bool(self.functions)
         self.goals = [*goals_in(lines)]
         self.answers = [found.groups() for found in map(FALSE_ANSWER.match, lines) if found]
         self.errors = [found.groups() for found in map(ERROR.match, lines) if found]

@@ -8,8 +8,8 @@
     python3 -m unittest tests.wrong_bodies -k WORD    those with a word in their name or their crate's
 
 tests/edits.py says how an edit is written. A check of a crate reports each function apart, and the proof of one rests
-on its own body and on the contracts of what it calls. So edits of different functions are tried in one check, a round.
-An edit is refused where the line of its own function says that goals of its own are not proved. Where a round can't
+on its own body and on the contracts of what it calls. So edits of different functions are tried in one check, a round,
+of these functions and of what they call in their crate (`--only`); of all, where a name fits several. An edit is refused where the line of its own function says that goals of its own are not proved. Where a round can't
 tell, the edit is tried alone; where its function is proved, the contract is too weak, and this fails.
 
 What refuses an edit follows from the names of the goals of its function that are open: the clauses that it breaks, in
@@ -18,11 +18,12 @@ safety. The line `refused by` names them; --write tries those that lack it, and 
 known. Each that it names has to refuse the edit again: an edit that is refused by others alone fails, and so does one
 that is refused only since a proof file cites a name that the edit took away. So does one without the line.
 
---turns tries those of crates whose sources or edits changed since the branch left origin's main (or since the last
-commit), then those of crates above one whose specs changed, and then one of sixteen groups, by the number of commits.
+--turns tries those of the headline (`always/`), then those of crates whose sources or edits changed since the branch
+left origin's main (or since the last commit), then those of crates above one whose specs changed, and then one of the
+groups of the others, by the number of commits.
 
-With --since SECONDS the libraries are those that the run of `rt ci` left that began then. With --jobs N as many checks
-run at once; else as many as there are processors, and room for them.
+With --gate FOLDER the libraries are those that `rt ci` proved in that folder. With --jobs N as many checks run at once;
+else as many as there are processors, and room for them.
 
 An edit that an earlier run on this machine refused is not tried again while nothing has changed that its check reads:
 the kit, the sources of its crate and of those below, the edit and what judges it here. With --anew it is.
@@ -49,11 +50,11 @@ from concurrent.futures import FIRST_COMPLETED, ThreadPoolExecutor, wait
 ROOT = os.path.dirname(os.path.dirname(os.path.abspath(__file__)))
 sys.path.insert(0, ROOT)
 from scripts.crates import SECONDS
-from scripts.kit import are_of_run, are_older, cache, files_below, load_kit, sum_of
+from scripts.kit import are_older, cache, files_below, load_kit, sum_of
 from tests import edits as bodies
 from tests import verdicts
-from tests.edits import changed_by, edits_of, text_of
-from tests.verdicts import BAD, NAMES_ONLY, PROVED, REFUSED, UNSURE, Result, Verdict, cycle_of, short
+from tests.edits import changed_by, edits_of, functions_of, text_of
+from tests.verdicts import BAD, NAMES_ONLY, PROVED, REFUSED, UNSURE, Result, Verdict, cycle_of, short, symbols_of
 
 # what comes of an edit beside what a check says: its file names other clauses, or none
 OTHERWISE, UNSAID, UNTRIED = "refused otherwise", "refused by what its file does not say", "not tried"
@@ -76,10 +77,12 @@ MOST = 24
 # a name that no function has: a check of it alone ends once the crate is compiled
 NO_FUNCTION = "no_such_function"
 
-# what each edit takes beyond a check of its crate from nothing, in seconds of processor time
+# what each edit takes beyond the first functions of its crate, in seconds of processor time
 EACH = {"cdr_core": 8, "ior_core": 5, "giop_link": 8, "ft_tcp": 8, "counter": 8, "giop_frames": 14, "ft_ends": 14,
-        "lemonrudder": 14, "ft_orb": 17, "giop_run": 18, "uses": 20, "orb_tests": 20}
+        "lemonrudder": 14, "ft_orb": 17, "giop_run": 18, "uses": 20}
 ELSE = 12
+# what a round takes before its first function
+START = 20
 
 
 class Refusals:
@@ -126,9 +129,9 @@ class Refusals:
 class Trials:
     """Wrong bodies that are tried, beside one another, and what came of them."""
 
-    def __init__(self, kit, refusals, budget=None, since=None, jobs=None, writes=False):
-        self.kit, self.refusals, self.budget, self.since, self.writes = kit, refusals, budget, since, writes
-        self.crates = {crate.name: crate for crate in kit.crates_below(ROOT)}
+    def __init__(self, kit, refusals, budget=None, gate=None, jobs=None, writes=False):
+        self.kit, self.refusals, self.budget, self.gate, self.writes = kit, refusals, budget, gate, writes
+        self.crates = {crate.name: crate for crate in kit.crates_below(gate or ROOT)}
         self.guard = kit.guarded()
         self.lanes = jobs or lanes()
         self.lock = threading.Lock()
@@ -207,7 +210,7 @@ class Trials:
     def seed_of(self, crate):
         """A folder for the work that the checks of a crate keep: empty, or with what checks in its own folder kept."""
         kept = f"{crate.folder}/out/incremental"
-        if self.since is None and os.path.isdir(kept):
+        if self.gate is None and os.path.isdir(kept):
             return self.over(kept)
         return os.path.join(tempfile.mkdtemp(dir=self.room), "kept")
 
@@ -228,10 +231,8 @@ class Trials:
         seed = self.seed_of(crate)
         again = self.round(crate, rounds[0], seed, jobs)
         left = rounds[1:] + again
-        if not os.path.isdir(seed) and left:
-            # (an edit of that round did not compile, so that its check kept nothing)
-            self.check(crate, {}, "--incremental", seed, jobs=jobs)
-            os.makedirs(seed, exist_ok=True)
+        # (where an edit of that round did not compile, its check kept nothing)
+        os.makedirs(seed, exist_ok=True)
 
         def one(edits):
             kept = self.over(seed)
@@ -265,7 +266,7 @@ class Trials:
         texts = {}
         for edit in edits:
             texts = edit.applied(texts)[0]
-        verdict = self.check(crate, texts, "--incremental", seed, jobs=jobs)
+        verdict = self.verdict(crate, edits, texts, seed, jobs)
         if not verdict.ended and len(edits) > 1:
             alone = [edit for edit in edits if verdict.blames(edit)] or edits
             others = [edit for edit in edits if edit not in alone]
@@ -278,6 +279,17 @@ class Trials:
             else:
                 self.note(edit, result)
         return again
+
+    def verdict(self, crate, edits, texts, seed, jobs):
+        """What a check says of the functions that edits change, or of all of the crate where their names don't tell."""
+        functions = {functions_of(crate.name, edit.source)[edit.function] for edit in edits}
+        only = [word for name in sorted({only_of(it) for it in functions}) for word in ("--only", name)]
+        verdict = self.check(crate, texts, "--incremental", seed, *only, jobs=jobs)
+        if verdict.ended and all(len(symbols_of(crate.name, it, verdict.functions)) == 1 for it in functions):
+            return verdict
+        if verdict.ended or verdict.status == 2:
+            return self.check(crate, texts, "--incremental", seed, jobs=jobs)
+        return verdict
 
     def uncompiled(self, crate, edits):
         """Of edits that can be made together those that do not compile, each with what is said of it."""
@@ -302,6 +314,15 @@ class Trials:
             return None
         killed = verdict.status < 0
         return Result(UNSURE, f"the check ended by signal {-verdict.status}") if killed else Result(BAD, short(said[0]))
+
+
+def only_of(function):
+    """The name by which a check of one function knows it: of a method of a trait that of its module."""
+    parts = function.path[len("src/"):-len(".rt")].split("/")
+    module = parts[:-1] if parts[-1] in ("lib", "main", "mod") else parts
+    if not function.impl:
+        return "::".join([*module, function.name])
+    return "::".join(module) if " for " in function.impl else function.full_name()
 
 
 def planned(edits, most=MOST):
@@ -357,7 +378,10 @@ def changed_since_base():
 
 
 def cost_of(crate, count):
-    return SECONDS[crate] + EACH.get(crate, ELSE) * count
+    """What so many edits of a crate take, in seconds of processor time: each of them its function and what that calls, all
+    no more than the crate."""
+    each = EACH.get(crate, ELSE)
+    return START + min(SECONDS.get(crate, 60) + each * count, 2 * each * count)
 
 
 def parts_of(edits):
@@ -365,8 +389,7 @@ def parts_of(edits):
     and again."""
     rows = []
     for crate, some in edits.items():
-        # (a crate's first check is dear, so it is not made for a few)
-        size = max(FEW, int((BUDGET - SECONDS[crate]) / EACH.get(crate, ELSE)))
+        size = max(FEW, int((BUDGET - START) / (2 * EACH.get(crate, ELSE))))
         count = -(-len(some) // size)
         rows.append([(crate, some[at::count]) for at in range(count)])
     return [part for row in itertools.zip_longest(*rows) for part in row if part]
@@ -379,27 +402,33 @@ def turned(items, turn):
 
 
 def due(edits, crates):
-    """The edits that are due in this run, within the budget: a list of (crate, its edits)."""
+    """The edits that are due in this run, those of the headline and others within the budget: a list of (crate, its
+    edits)."""
     turn = int(git("rev-list", "--count", "HEAD") or 0)
     changed, below = changed_since_base()
     above = {name for name in edits if below & {it.name for it in crates[name].below()}} - changed
     order = [changed, above, set(edits) - changed - above]
-    taken, left = {}, BUDGET
+    taken = {name: found for name, some in edits.items() if (found := [it for it in some if it.is_always])}
+    left = BUDGET - sum(cost_of(name, len(some)) for name, some in taken.items())
+    others = {name: [it for it in some if not it.is_always] for name, some in edits.items()}
+    is_none = True
     for names in order:
-        for name, some in turned(parts_of({name: edits[name] for name in edits if name in names}), turn):
-            cost = cost_of(name, len(some)) - (SECONDS[name] if name in taken else 0)
-            if cost <= left or not taken:
+        for name, some in turned(parts_of({name: others[name] for name in edits if name in names}), turn):
+            cost = cost_of(name, len(some)) - (START if name in taken else 0)
+            if cost <= left or is_none:
                 taken.setdefault(name, []).extend(some)
-                left -= cost
+                left, is_none = left - cost, False
     return [*taken.items()]
 
 
-def have_libraries(crates, since):
+def have_libraries(crates, gate):
     """Whether the libraries below these crates are built, from the sources as they are."""
     below = {it.name: it for crate in crates for it in crate.below()}
-
-    if since is not None and are_of_run(below.values(), since):
-        return True
+    if gate is not None:
+        lacking = [it.name for it in below.values() if not os.path.isfile(f"{it.rlib}/format")]
+        if lacking:
+            print(f"the gate left no library {lacking[0]}")
+        return not lacking
     for crate in below.values():
         if not crate.is_built():
             print(f"building {crate.name}", flush=True)
@@ -427,7 +456,7 @@ def chosen(options, edits, crates):
 def tried(trials, wanted):
     """Tries edits: a list of (crate, its edits)."""
     try:
-        if have_libraries([trials.crates[name] for name, _ in wanted], trials.since):
+        if have_libraries([trials.crates[name] for name, _ in wanted], trials.gate):
             trials.run(wanted)
     finally:
         shutil.rmtree(trials.room, ignore_errors=True)
@@ -436,7 +465,7 @@ def tried(trials, wanted):
 def compiled(trials, wanted):
     """Says which edits do not compile, and returns the status."""
     try:
-        if not have_libraries([trials.crates[name] for name, _ in wanted], trials.since):
+        if not have_libraries([trials.crates[name] for name, _ in wanted], trials.gate):
             return 1
         rounds = [(trials.crates[name], some) for name, edits in wanted for some in planned(edits, len(edits))]
         with ThreadPoolExecutor(trials.lanes) as pool:
@@ -454,14 +483,14 @@ def all_edits():
 
 
 def main():
-    usage = "tests/wrong_bodies.py [--anew] [--write] [--since SECONDS] [--jobs N] --turns | --all | --compile CRATE.. | CRATE [EDIT..]"
+    usage = "tests/wrong_bodies.py [--anew] [--write] [--gate FOLDER] [--jobs N] --turns | --all | --compile CRATE.. | CRATE [EDIT..]"
     parser = argparse.ArgumentParser(usage=usage)
     parser.add_argument("--anew", action="store_true")
     parser.add_argument("--write", action="store_true")
     parser.add_argument("--turns", action="store_true")
     parser.add_argument("--all", action="store_true")
     parser.add_argument("--compile", nargs="+")
-    parser.add_argument("--since", type=float)
+    parser.add_argument("--gate")
     parser.add_argument("--jobs", type=int)
     parser.add_argument("crate", nargs="?")
     parser.add_argument("edits", nargs="*")
@@ -472,7 +501,7 @@ def main():
         sys.exit("rt, the command of the Rattle toolchain, is not on the path")
     kit = load_kit()
     budget = BUDGET if options.turns else None
-    trials = Trials(kit, Refusals(kit, options.anew), budget, options.since, options.jobs, options.write)
+    trials = Trials(kit, Refusals(kit, options.anew), budget, options.gate, options.jobs, options.write)
     edits = all_edits()
     if options.compile:
         return compiled(trials, [(crate, edits[crate]) for crate in options.compile])

@@ -328,7 +328,7 @@ enum {
   LR_SET_PARKED = 5,    /* requests that may be parked at a time: 1024 */
   LR_SET_PARKED_OF = 6, /* .. of those that came on one connection: 64 */
   LR_SET_JOINED = 7,    /* who may wait for the outcome of a parked one, beside the last who came: 8 */
-  LR_SET_DUE = 8,       /* octets due on a connection from which on it is fed no more: 1048576 */
+  LR_SET_DUE = 8,       /* octets due on a connection, 1 or more, from which on it is fed no more: 1048576 */
   LR_SET_CLIENT_ID = 9, /* octets of a client's id at most; who has a longer one is answered BAD_CONTEXT: 256 */
   LR_SET_ASK_FIRST = 10 /* 1 where you are asked before a request with FT_REQUEST is refused: 0 */
 };
@@ -549,7 +549,8 @@ LR_API int64_t lr_server_tick(lr_server *server, uint64_t moment);
 
 /* Exchanges what the server has on offer and a catalogue: so objects are added and taken away while it serves. What is
  * kept stays, and is what repeats get. A parked request is answered by an outcome of its operation as that is on offer
- * then, or by a system exception. LR_E_EMPTY, LR_E_ASKING. */
+ * then, by lr_server_answer_raw, or by a system exception: so keep an object that is to go until nothing of it is parked
+ * (lr_server_wanted), and refuse who asks for it meanwhile by LR_EX_OBJECT_NOT_EXIST. LR_E_EMPTY, LR_E_ASKING. */
 LR_API int64_t lr_server_swap(lr_server *server, lr_catalogue *catalogue);
 
 /* ---- a client that sends its calls again ---- */
@@ -598,9 +599,9 @@ LR_API int64_t lr_client_call(lr_client *client, uint64_t now, uint64_t expirati
                               const void *operation, size_t operation_size, const uint8_t *types, size_t types_size,
                               uint32_t order, const void *arguments, size_t arguments_size);
 
-/* Takes a call of before up again under its number, in a client that was opened anew with the id of before: a server
- * that performed it gives its first outcome. Numbers go up, and the expiration is the one of before. The next call gets
- * the number after this one. Errors as of lr_client_call; LR_E_RANGE also where the number is below 0 or over
+/* Takes a call of before up again under its number, in a client that was opened anew with the id of before, and answers
+ * LR_OK: a server that performed it gives its first outcome. Numbers go up, and the expiration is the one of before. The
+ * next call gets the number after this one. Errors as of lr_client_call; LR_E_RANGE also where the number is below 0 or over
  * 2147483647; and LR_E_TAKEN: it is 0, or not greater than each that this client gave, took up or skipped. */
 LR_API int64_t lr_client_recall(lr_client *client, int64_t call, uint64_t now, uint64_t expiration, const void *key,
                                 size_t key_size, const void *operation, size_t operation_size, const uint8_t *types,
@@ -801,7 +802,7 @@ LR_API int64_t lr_write_cancel(void *room, size_t size, uint32_t version, uint32
 LR_API int64_t lr_write_locate_request(void *room, size_t size, uint32_t version, uint32_t order, uint32_t request_id,
                                        const void *key, size_t key_size);
 
-/* Without a body, so LR_LOCATE_UNKNOWN_OBJECT or LR_LOCATE_OBJECT_HERE. */
+/* Without a body, so LR_LOCATE_UNKNOWN_OBJECT or LR_LOCATE_OBJECT_HERE: LR_E_RANGE of others. */
 LR_API int64_t lr_write_locate_reply(void *room, size_t size, uint32_t version, uint32_t order, uint32_t request_id,
                                      uint32_t status);
 
@@ -876,7 +877,7 @@ typedef struct {
   uint64_t at;
   uint64_t next;
   uint32_t order;
-  uint32_t reserved;
+  uint32_t reserved; /* it is not looked at */
 } lr_place;
 
 LR_API int64_t lr_get_octet(const void *octets, size_t size, lr_place *place, uint8_t *value);

@@ -1216,7 +1216,7 @@ class Reader {
  public:
   /* Numbers are aligned from `at`, the place of the first octet: 0 for an encapsulation, body_at for a body. */
   explicit Reader(Octets octets, Order order = Order::big, std::uint64_t at = 0) noexcept
-      : octets_(octets), place_{at, 0, static_cast<std::uint32_t>(order), 0} {}
+      : Reader(octets, lr_place{at, 0, static_cast<std::uint32_t>(order), 0}) {}
   /* A vector, string or array that is gone before it is read. */
   template <class Owner, std::enable_if_t<detail::is_gone<Owner>, int> = 0>
   explicit Reader(Owner&& octets, Order order = Order::big, std::uint64_t at = 0) = delete;
@@ -1274,8 +1274,19 @@ class Reader {
   /* What was not read. */
   Octets rest() const noexcept { return octets_.from(place_.next); }
 
+  /* How much memory may be taken for what is read, as by lemonrudder_idl.hpp, in octets: in a new one 65536, and 16
+   * times as many as it has octets. */
+  void limit(std::uint64_t octets) noexcept { left_ = octets; }
+  /* Takes so much of it. LR_E_VALUE where so much is not left. */
+  Done claim(std::uint64_t octets) noexcept {
+    if (octets > left_) return Error(LR_E_VALUE);
+    left_ -= octets;
+    return {};
+  }
+
  private:
-  Reader(Octets octets, lr_place place) noexcept : octets_(octets), place_(place) {}
+  Reader(Octets octets, lr_place place) noexcept
+      : octets_(octets), place_(place), left_(65536 + std::uint64_t{16} * octets.size()) {}
 
   template <class T, class Get>
   Result<T> get(Get of_octets) noexcept {
@@ -1296,6 +1307,7 @@ class Reader {
 
   Octets octets_;
   lr_place place_;
+  std::uint64_t left_;
 };
 
 namespace detail {
@@ -1360,7 +1372,7 @@ class GrowingWriter {
   GrowingWriter(const GrowingWriter&) = delete;
   GrowingWriter& operator=(const GrowingWriter&) = delete;
   GrowingWriter(GrowingWriter&& other) noexcept
-      : octets_(std::move(other.octets_)), place_(other.place_), error_(other.error_) {
+      : octets_(std::move(other.octets_)), place_(other.place_), error_(other.error_), why_(std::move(other.why_)) {
     other.clear();
   }
   GrowingWriter& operator=(GrowingWriter&& other) noexcept {
@@ -1368,6 +1380,7 @@ class GrowingWriter {
       octets_ = std::exchange(other.octets_, {});
       place_ = other.place_;
       error_ = other.error_;
+      why_ = std::exchange(other.why_, {});
       other.clear();
     }
     return *this;
@@ -1417,6 +1430,19 @@ class GrowingWriter {
   void clear() noexcept {
     place_.next = 0;
     error_ = Error(LR_OK);
+    why_.clear();
+  }
+
+  /* Why a value is not written, in a line, where one was refused; and what lemonrudder_idl.hpp says it by: a value is
+   * refused, in what has a name. */
+  const std::string& why() const noexcept { return why_; }
+  Error refuse(std::string why, std::int64_t error = LR_E_RANGE) {
+    why_ = std::move(why);
+    return Error(error);
+  }
+  Done within(std::string_view name, Done done) {
+    if (!done) why_ = std::string(name) + ": " + (why_.empty() ? done.error().text() : why_);
+    return done;
   }
 
  private:
@@ -1452,6 +1478,7 @@ class GrowingWriter {
   std::vector<std::uint8_t> octets_;
   lr_place place_;
   Error error_{LR_OK};
+  std::string why_;
 };
 
 /* ---- writing messages ---- */

@@ -42,6 +42,7 @@
 #include <map>
 #include <memory>
 #include <mutex>
+#include <set>
 #include <string>
 #include <string_view>
 #include <system_error>
@@ -392,6 +393,7 @@ class Loop {
 
   explicit Loop(LoopLimits limits = {}) : limits_(limits), waiter_(first + limits.peers), peers_(first + limits.peers) {
     if (auto opened = Catalogue::open()) catalogue_ = *std::move(opened);
+    if (auto opened = Catalogue::open()) of_families_ = *std::move(opened);
     for (std::size_t slot = peers_.size(); slot-- > first;) unused_.push_back(slot);
   }
   ~Loop() {
@@ -401,30 +403,55 @@ class Loop {
   Loop(const Loop&) = delete;
   Loop& operator=(const Loop&) = delete;
 
-  /* ---- before open() ---- */
+  /* ---- what is on offer: before open(), and on the thread of serve(), also in an operation ---- */
 
   /* An object, and the repository id of its type. */
-  Done object(Octets key, const char* type) {
-    return catalogue_.object(key).and_then([&] { return catalogue_.repository_id(key, type); }).transform([&] {
-      types_[std::string(key.text())] = type;
-    });
-  }
+  Done object(Octets key, const char* type) { return object(key, {type}); }
   /* .. and the ids of its bases behind it. */
   Done object(Octets key, std::initializer_list<const char*> types) {
-    std::string ids;
+    std::string name(key.text()), ids;
+    if (types_.find(name) != types_.end()) return Error(LR_E_TAKEN);
     for (const char* type : types) ids.append(type).push_back('\0');
-    return catalogue_.object(key).and_then([&] { return catalogue_.repository_ids(key, ids); }).transform([&] {
-      types_[std::string(key.text())] = *types.begin();
-    });
+    const auto add = [name, ids](Catalogue& all) {
+      return all.object(name).and_then([&] { return all.repository_ids(name, ids); });
+    };
+    return change(key, add).transform([&] { types_[name] = *types.begin(); });
   }
-  /* An exception of the operation that is added next. */
-  Done exception(Octets id, Types members) { return catalogue_.exception(id, members); }
+  /* An exception of the operation that is added next, if that is not raw. */
+  Done exception(Octets id, Types members) {
+    auto scratch = Catalogue::open();
+    if (!scratch) return scratch.error();
+    const Done done = scratch->exception(id, members);
+    return done.transform([&] { exceptions_.emplace_back(id.text(), copy_of(members)); });
+  }
   Done operation(Octets key, std::string_view name, Types arguments, Types results, Servant servant) {
-    return catalogue_.operation(key, name, arguments, results).transform([&] { employ(key, name, servant); });
+    const auto add = [object = std::string(key.text()), operation = std::string(name), arguments = copy_of(arguments),
+                      results = copy_of(results), raised = std::exchange(exceptions_, {})](Catalogue& all) {
+      Done done;
+      for (auto one = raised.begin(); done && one != raised.end(); ++one) done = all.exception(one->first, one->second);
+      return done ? all.operation(object, operation, arguments, results) : done;
+    };
+    return change(key, add).transform([&] { employ(key, name, servant); });
   }
   Done raw_operation(Octets key, std::string_view name, Servant servant) {
-    return catalogue_.raw_operation(key, name).transform([&] { employ(key, name, servant); });
+    const auto add = [object = std::string(key.text()), operation = std::string(name)](Catalogue& all) {
+      return all.raw_operation(object, operation);
+    };
+    return change(key, add).transform([&] { employ(key, name, servant); });
   }
+
+  /* A family, before open(): the objects whose keys begin so, of which `exists` says which there are; whose type and
+   * operations those are that its prefix is given. Who asks for another one is answered OBJECT_NOT_EXIST. */
+  Done family(Octets prefix, std::initializer_list<const char*> types, std::function<bool(Octets)> exists) {
+    if (is_open_) return Error(LR_E_OPEN);
+    families_[std::string(prefix.text())] = std::move(exists);
+    const Done done = object(prefix, types);
+    if (!done) families_.erase(std::string(prefix.text()));
+    return done;
+  }
+
+  /* ---- before open() ---- */
+
   /* Who performs what no servant above is named for, and is asked for what would be refused (Settings::ask_first). */
   void otherwise(Servant servant) { otherwise_ = std::move(servant); }
   /* The catalogue itself, for the rest. */
@@ -440,9 +467,14 @@ class Loop {
     if (!settings.due) settings.due = 65536;
     if (!settings.parked_of_one) settings.parked_of_one = 64;
     most_parked_ = *settings.parked_of_one;
+    if (!families_.empty())
+      if (const Done done = catalogue_.families(of_families_); !done) return done;
+    asks_first_ = settings.ask_first.value_or(false);
     auto opened = Server::open(catalogue_, seeds, settings);
     if (!opened) return opened.error();
     server_ = *std::move(opened);
+    is_open_ = true;
+    if (auto another = Catalogue::open()) catalogue_ = *std::move(another);
     return {};
   }
   Server& server() noexcept { return server_; }
@@ -469,7 +501,9 @@ class Loop {
 
   /* The reference of an object, at the address where the loop listens, or at a host of another name. */
   Result<std::string> reference(Octets key, std::string_view host = {}) {
-    auto ior = Ior::iiop(types_[std::string(key.text())], 2, host.empty() ? address_ : host, port_, key);
+    const auto family = types_.find(key.text()) == types_.end() ? family_of(key) : families_.end();
+    const std::string type = types_[family == families_.end() ? std::string(key.text()) : family->first];
+    auto ior = Ior::iiop(type, 2, host.empty() ? address_ : host, port_, key);
     if (!ior) return ior.error();
     return ior->print();
   }
@@ -504,6 +538,7 @@ class Loop {
       std::rotate(turns_.begin(), turns_.begin() + before, turns_.end());
       take_turns();
       go_on();
+      if (!leaving_.empty()) take_out();
       if (is_called_ && listener_.is_open()) accept_peers();
       if (is_second) pass(now);
       if (is_second) passed = now;
@@ -516,6 +551,12 @@ class Loop {
       if (peers_[slot]) drop(slot);
     return {};
   }
+
+  /* Takes an object away, on the thread of serve(), also in an operation. Who asks for it from now on is answered
+   * OBJECT_NOT_EXIST; with Settings::ask_first the servant of otherwise() is asked for what has FT_REQUEST, as for what
+   * is refused so. What is parked of it ends by its own outcome, which is kept. Once nothing of it is parked it is
+   * taken out of what is on offer; up to then its key is taken, and a LocateRequest says that it is here. */
+  void remove(Octets key) { leaving_.insert(std::string(key.text())); }
 
   /* Tells it to stop. Any thread may, and a signal's handler. */
   void stop() noexcept { mailbox_->stop(); }
@@ -561,6 +602,36 @@ class Loop {
     bool has_unsent() const noexcept { return sent < size; }
   };
 
+  using Change = std::function<Done(Catalogue&)>;
+
+  static std::vector<std::uint8_t> copy_of(Types types) { return {types.begin(), types.end()}; }
+
+  /* Changes what is on offer. While a request waits that can't be done: a catalogue of its own says whether it can be,
+   * and it is done before anybody is fed again. */
+  Done change(Octets key, Change made) {
+    if (!is_open_) return made(families_.find(key.text()) == families_.end() ? catalogue_ : of_families_);
+    if (!is_asking_ && changes_.empty()) return exchange(made);
+    const Done done = made(catalogue_);
+    if (done) changes_.push_back(std::move(made));
+    return done;
+  }
+
+  Done exchange(const Change& made) {
+    auto all = Catalogue::open();
+    if (!all) return all.error();
+    if (const Done swapped = server_.swap(*all); !swapped) return swapped;
+    const Done done = made(*all);
+    static_cast<void>(server_.swap(*all));
+    return done;
+  }
+
+  /* Makes the changes that had to wait; where memory is short the rest is made later. */
+  void make_changes() {
+    while (!changes_.empty() && exchange(changes_.front()).error() != LR_E_MEMORY) changes_.pop_front();
+    if (!changes_.empty()) return;
+    if (auto opened = Catalogue::open()) catalogue_ = *std::move(opened);
+  }
+
   void employ(Octets key, std::string_view name, Servant& servant) {
     servants_[std::string(key.text())][std::string(name)] = std::move(servant);
   }
@@ -590,19 +661,84 @@ class Loop {
 
   /* Has the request that waits performed. */
   void perform() {
-    const auto request = server_.asked();
+    auto request = server_.asked();
     if (!request.ok() || !*request) return;
-    const auto identified = server_.identify((*request)->ticket);
-    if (!identified.ok() || *identified) return;
+    const std::uint64_t ticket = (*request)->ticket;
     Asked asked(server_, **request, mailbox_);
+    if ((!leaving_.empty() || !families_.empty()) && is_gone(asked)) return;
+    const auto identified = server_.identify(ticket);
+    if (!identified.ok() || *identified) return;
     if (!asked.load()) return;
-    const auto object = servants_.find(asked.key().text());
+    auto object = servants_.find(asked.key().text());
+    if (const auto family = family_of(asked.key()); object == servants_.end() && family != families_.end())
+      object = servants_.find(family->first);
     const Servant* servant = &otherwise_;
-    if (object != servants_.end() && !(*request)->refused_by()) {
+    if (object != servants_.end() && !asked.request().refused_by()) {
       const auto named = object->second.find(asked.operation());
       if (named != object->second.end()) servant = &named->second;
     }
     if (*servant) static_cast<void>((*servant)(asked));
+    note_parked(ticket, asked.key());
+  }
+
+  /* The family of a key: that of the longest prefix. */
+  std::map<std::string, std::function<bool(Octets)>, std::less<>>::iterator family_of(Octets key) {
+    auto found = families_.end();
+    for (auto it = families_.begin(); it != families_.end(); ++it)
+      if (key.text().substr(0, it->first.size()) == it->first &&
+          (found == families_.end() || found->first.size() < it->first.size()))
+        found = it;
+    return found;
+  }
+
+  /* Whether the object of a key leaves, or is one that its family lacks. */
+  bool lacks(Octets key) {
+    if (leaving_.find(key.text()) != leaving_.end()) return true;
+    const auto family = types_.find(key.text()) == types_.end() ? family_of(key) : families_.end();
+    return family != families_.end() && !family->second(key);
+  }
+
+  /* Whether a request is of an object that leaves, or that a family lacks, and it is refused, or given up where it can't
+   * be read. Where it is asked for first it is said to be refused so, and not yet. */
+  bool is_gone(Asked& asked) {
+    if (!asked.load()) return static_cast<void>(server_.give_up(asked.ticket())), true;
+    if (!lacks(asked.key())) return false;
+    asked.request_.is_refused = asked.request_.is_raw = 1;
+    asked.request_.refusal = LR_EX_OBJECT_NOT_EXIST;
+    if (asks_first_ && asked.request().has_client) return false;
+    return static_cast<void>(asked.refuse(SystemException::object_not_exist)), true;
+  }
+
+  bool is_parked(std::uint64_t ticket) noexcept { return server_.wanted(ticket).ok(); }
+
+  /* Notes of what object a request is that was performed, if it is parked. */
+  void note_parked(std::uint64_t ticket, Octets key) {
+    if (!is_parked(ticket)) return;
+    parked_.emplace(ticket, key.text());
+    if (parked_.size() < 64 + 2 * server_.parked().value_or(0)) return;
+    for (auto it = parked_.begin(); it != parked_.end();) it = is_parked(it->first) ? std::next(it) : parked_.erase(it);
+  }
+
+  /* Whether something of an object is parked. */
+  bool is_called_yet(const std::string& key) {
+    return std::any_of(parked_.begin(), parked_.end(),
+                       [&](const auto& one) { return one.second == key && is_parked(one.first); });
+  }
+
+  /* Takes objects out of what is on offer of which nothing is parked any more. */
+  void take_out() {
+    for (auto it = leaving_.begin(); it != leaving_.end();) {
+      auto all = Catalogue::open();
+      if (is_called_yet(*it) || !all || !server_.swap(*all)) {
+        ++it;
+        continue;
+      }
+      static_cast<void>(all->remove(*it));
+      static_cast<void>(server_.swap(*all));
+      servants_.erase(*it);
+      types_.erase(*it);
+      it = leaving_.erase(it);
+    }
   }
 
   static Octets left_of(const Peer& peer) noexcept { return {peer.came + peer.fed, peer.got - peer.fed}; }
@@ -615,11 +751,14 @@ class Loop {
       hold(peer, parked_of(peer) >= most_parked_);
       if (peer.is_held) return;
       const auto taken = server_.feed(peer.connection, moment, left_of(peer).first(step));
+      is_asking_ = true;
       perform();
       if (const auto left = server_.asked(); left.ok() && *left) {
         const auto refusal = (*left)->refused_by().value_or(SystemException::transient);
         static_cast<void>(server_.refuse((*left)->ticket, refusal, 0));
       }
+      is_asking_ = false;
+      if (!changes_.empty()) make_changes();
       // (where the connection is gone, what was answered is sent)
       peer.fed = taken ? peer.fed + *taken : peer.got;
       if ((taken && *taken == 0) || detail::LoopClock::now() > end) return;
@@ -821,6 +960,7 @@ class Loop {
         drop(slot);
     }
     static_cast<void>(server_.tick(now()));
+    if (!changes_.empty()) make_changes();
     if (listener_.is_open()) listen_for(true);
   }
 
@@ -842,11 +982,20 @@ class Loop {
   std::uint64_t last_ = 0;  // the connection that was opened last
 
   Catalogue catalogue_;
+  Catalogue of_families_;
+  std::map<std::string, std::function<bool(Octets)>, std::less<>> families_;  // which of a prefix there are
+  std::vector<std::pair<std::string, std::vector<std::uint8_t>>> exceptions_;  // of the operation that is added next
   Server server_;
   std::size_t most_parked_ = 0;
   std::map<std::string, std::string, std::less<>> types_;
   std::map<std::string, std::map<std::string, Servant, std::less<>>, std::less<>> servants_;
   Servant otherwise_;
+  bool asks_first_ = false;
+  bool is_open_ = false;
+  bool is_asking_ = false;      // a request waits, or did
+  std::deque<Change> changes_;  // of what is on offer, which wait
+  std::set<std::string, std::less<>> leaving_;    // objects that are to be taken out of what is on offer
+  std::map<std::uint64_t, std::string> parked_;  // requests that were parked, and their objects
 
   detail::Descriptor listener_;
   short listener_events_ = -1;

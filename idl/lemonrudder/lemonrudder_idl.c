@@ -45,6 +45,12 @@ static const lr_idl_member reference_members[] = {
     {&profiles_type, offsetof(lr_idl_reference, profiles), 0, false}};
 const lr_idl_type lr_idl_reference__type = {LR_IDL_STRUCT, 2, sizeof(lr_idl_reference), NULL, reference_members};
 
+static const lr_idl_member body_members[] = {{&octets_type, offsetof(lr_idl_body, octets), 0, false}};
+const lr_idl_type lr_idl_body__type = {LR_IDL_BODY, 1, sizeof(lr_idl_body), NULL, body_members};
+
+/* How deep sequences stand in sequences. */
+enum { DEPTH = 64 };
+
 /* ---- values ---- */
 
 /* (Pointers to any type are laid out alike, and copied as octets, since they have many types.) */
@@ -109,7 +115,7 @@ static void free_struct(const lr_idl_type *type, void *value) {
 static void free_value(const lr_idl_type *type, void *value) {
   if (type->kind == LR_IDL_STRING) free(text_at(value));
   if (type->kind == LR_IDL_ARRAY) free_members(type->inner, type->count, value);
-  if (type->kind == LR_IDL_STRUCT) free_struct(type, value);
+  if (type->kind == LR_IDL_STRUCT || type->kind == LR_IDL_BODY) free_struct(type, value);
   if (type->kind == LR_IDL_SEQUENCE) {
     struct sequence some = sequence_at(value);
     if (some.buffer != NULL) free_members(type->inner, some.length, some.buffer);
@@ -168,7 +174,14 @@ static int64_t copy_struct(const lr_idl_type *type, const void *from, void *to) 
   return done;
 }
 
+static int64_t copy_body(const lr_idl_body *from, lr_idl_body *to) {
+  to->order = from->order;
+  to->at = from->at;
+  return copy_sequence(&lr_idl_octet__type, &from->octets, &to->octets);
+}
+
 static int64_t copy_value(const lr_idl_type *type, const void *from, void *to) {
+  if (type->kind == LR_IDL_BODY) return copy_body(from, to);
   if (type->kind == LR_IDL_STRING) return copy_text(from, to);
   if (type->kind == LR_IDL_SEQUENCE) return copy_sequence(type->inner, from, to);
   if (type->kind == LR_IDL_ARRAY) return copy_members(type->inner, type->count, from, to);
@@ -191,7 +204,21 @@ struct reader {
   const void *octets;
   size_t size;
   lr_place *place;
+  uint64_t *left; /* how much memory values may take yet, or NULL where they own none */
+  unsigned depth; /* of sequences in sequences */
 };
+
+/* How much memory the values of so many octets may take. */
+static uint64_t limit_of(uint64_t limit, size_t size) {
+  return limit != 0 ? limit : UINT64_C(65536) + UINT64_C(16) * size;
+}
+
+/* Takes so much of it. */
+static int64_t claim(const struct reader *in, uint64_t size) {
+  if (size > *in->left) return LR_E_VALUE;
+  *in->left -= size;
+  return LR_OK;
+}
 
 /* Reads a value into one that is all zero. At an error it owns what was read of it. */
 static int64_t get_value(const struct reader *in, const lr_idl_type *type, void *value);
@@ -215,7 +242,7 @@ static int64_t get_text(const struct reader *in, const lr_idl_type *type, void *
   uint64_t start, length;
   int64_t done = lr_get_string(in->octets, in->size, in->place, &start, &length);
   if (done < 0) return done;
-  if (type->count != 0 && length > type->count) return LR_E_VALUE;
+  if ((type->count != 0 && length > type->count) || claim(in, length + 1) < 0) return LR_E_VALUE;
   char *text = malloc((size_t)length + 1);
   if (text == NULL) return LR_E_MEMORY;
   memcpy(text, (const char *)in->octets + start, (size_t)length);
@@ -228,7 +255,7 @@ static int64_t get_octets(const struct reader *in, const lr_idl_type *type, void
   uint64_t start, length;
   int64_t done = lr_get_octets(in->octets, in->size, in->place, &start, &length);
   if (done < 0 || length == 0) return done;
-  if (type->count != 0 && length > type->count) return LR_E_VALUE;
+  if ((type->count != 0 && length > type->count) || claim(in, length) < 0) return LR_E_VALUE;
   struct sequence some = {(uint32_t)length, malloc((size_t)length)};
   if (some.buffer == NULL) return LR_E_MEMORY;
   memcpy(some.buffer, (const unsigned char *)in->octets + start, (size_t)length);
@@ -237,10 +264,11 @@ static int64_t get_octets(const struct reader *in, const lr_idl_type *type, void
 }
 
 /* Makes room for more members of a sequence, so many in all at most, which are all zero. (It grows by what is read, as
- * octets that are none may say any count.) */
+ * octets that are none may say any count.) LR_E_VALUE: there is room for so many. */
 static int64_t widen(struct sequence *some, uint32_t *room, uint32_t most, size_t size) {
   uint32_t more = *room > most / 2 ? most : *room == 0 ? 8 : 2 * *room;
   if (more > most) more = most;
+  if (more == *room) return LR_E_VALUE;
   if (more > SIZE_MAX / size) return LR_E_MEMORY;
   void *buffer = realloc(some->buffer, more * size);
   if (buffer == NULL) return LR_E_MEMORY;
@@ -250,14 +278,23 @@ static int64_t widen(struct sequence *some, uint32_t *room, uint32_t most, size_
   return LR_OK;
 }
 
+/* How many members a sequence may have, of which it has some: as many as it says, or there is memory for. */
+static uint32_t most_of(const struct reader *in, uint32_t count, uint32_t length, size_t size) {
+  const uint64_t more = size == 0 ? UINT32_MAX : *in->left / size;
+  return more < count - length ? length + (uint32_t)more : count;
+}
+
 static int64_t get_sequence(const struct reader *in, const lr_idl_type *type, void *value) {
   struct sequence some = {0, NULL};
+  const size_t size = type->inner->size;
   uint32_t count = 0, room = 0;
-  int64_t done = lr_get_ulong(in->octets, in->size, in->place, &count);
+  const struct reader deeper = {in->octets, in->size, in->place, in->left, in->depth + 1};
+  int64_t done = deeper.depth > DEPTH ? LR_E_VALUE : lr_get_ulong(in->octets, in->size, in->place, &count);
   if (done == LR_OK && type->count != 0 && count > type->count) return LR_E_VALUE;
   while (done == LR_OK && some.length < count) {
-    if (some.length == room) done = widen(&some, &room, count, type->inner->size);
-    if (done == LR_OK) done = get_value(in, type->inner, part_of(some.buffer, some.length++ * type->inner->size));
+    if (some.length == room) done = widen(&some, &room, most_of(in, count, some.length, size), size);
+    if (done == LR_OK) done = claim(in, size);
+    if (done == LR_OK) done = get_value(&deeper, type->inner, part_of(some.buffer, some.length++ * size));
   }
   memcpy(value, &some, sizeof some);
   return done;
@@ -284,6 +321,20 @@ static int64_t get_union(const struct reader *in, const lr_idl_type *type, void 
   return member == NULL ? LR_OK : get_value(in, member->type, part_of(value, member->offset));
 }
 
+/* All octets that are left. */
+static int64_t get_body(const struct reader *in, lr_idl_body *body) {
+  const size_t next = (size_t)in->place->next, left = in->size - next;
+  body->order = in->place->order;
+  body->at = in->place->at + next;
+  if (left == 0) return LR_OK;
+  body->octets._buffer = malloc(left);
+  if (body->octets._buffer == NULL) return LR_E_MEMORY;
+  memcpy(body->octets._buffer, (const unsigned char *)in->octets + next, left);
+  body->octets._length = (uint32_t)left;
+  in->place->next = in->size;
+  return LR_OK;
+}
+
 static int64_t get_value(const struct reader *in, const lr_idl_type *type, void *value) {
   const void *octets = in->octets;
   switch (type->kind) {
@@ -303,19 +354,26 @@ static int64_t get_value(const struct reader *in, const lr_idl_type *type, void 
     case LR_IDL_SEQUENCE: return (type->inner->kind == LR_IDL_OCTET ? get_octets : get_sequence)(in, type, value);
     case LR_IDL_ARRAY: return get_array(in, type, value);
     case LR_IDL_STRUCT: return get_struct(in, type, value);
+    case LR_IDL_BODY: return get_body(in, value);
     default: return get_union(in, type, value);
   }
 }
 
-int64_t lr_idl_get(const lr_idl_type *type, const void *octets, size_t size, lr_place *place, void *value) {
-  struct reader in = {octets, size, place};
-  lr_place before = *place;
+/* .. as a whole: at an error nothing is read. */
+static int64_t get_whole(const struct reader *in, const lr_idl_type *type, void *value) {
+  lr_place before = *in->place;
   memset(value, 0, type->size);
-  int64_t done = get_value(&in, type, value);
+  int64_t done = get_value(in, type, value);
   if (done == LR_OK) return LR_OK;
   lr_idl_free(type, value);
-  *place = before;
+  *in->place = before;
   return done;
+}
+
+int64_t lr_idl_get(const lr_idl_type *type, const void *octets, size_t size, lr_place *place, void *value) {
+  uint64_t left = limit_of(0, size);
+  struct reader in = {octets, size, place, &left, 0};
+  return get_whole(&in, type, value);
 }
 
 /* ---- writing ---- */
@@ -324,6 +382,7 @@ struct writer {
   void *room;
   size_t size;
   lr_place *place;
+  unsigned depth; /* of sequences in sequences */
 };
 
 static int64_t put_value(const struct writer *out, const lr_idl_type *type, const void *value);
@@ -353,8 +412,10 @@ static int64_t put_sequence(const struct writer *out, const lr_idl_type *type, c
   if ((type->count != 0 && some.length > type->count) || (some.length > 0 && some.buffer == NULL)) return LR_E_RANGE;
   if (type->inner->kind == LR_IDL_OCTET)
     return lr_put_octets(out->room, out->size, out->place, some.buffer, some.length);
+  const struct writer deeper = {out->room, out->size, out->place, out->depth + 1};
+  if (deeper.depth > DEPTH) return LR_E_RANGE;
   int64_t done = lr_put_ulong(out->room, out->size, out->place, some.length);
-  return done < 0 ? done : put_members(out, type->inner, some.length, some.buffer);
+  return done < 0 ? done : put_members(&deeper, type->inner, some.length, some.buffer);
 }
 
 static int64_t put_struct(const struct writer *out, const lr_idl_type *type, const void *value) {
@@ -369,6 +430,17 @@ static int64_t put_union(const struct writer *out, const lr_idl_type *type, cons
   if (done < 0) return done;
   const lr_idl_member *member = selected(type, value);
   return member == NULL ? LR_OK : put_value(out, member->type, part_of(value, member->offset));
+}
+
+/* All octets of a message, in their order. */
+static int64_t put_body(const struct writer *out, const lr_idl_body *body) {
+  if (out->place->next != 0 || body->at % 8 != 0 || body->order > LR_ORDER_LITTLE) return LR_E_RANGE;
+  if (body->octets._length > 0 && body->octets._buffer == NULL) return LR_E_RANGE;
+  if (body->octets._length > out->size) return LR_E_ROOM;
+  if (body->octets._length > 0) memcpy(out->room, body->octets._buffer, body->octets._length);
+  out->place->next = body->octets._length;
+  out->place->order = body->order;
+  return LR_OK;
 }
 
 static int64_t put_value(const struct writer *out, const lr_idl_type *type, const void *value) {
@@ -390,12 +462,13 @@ static int64_t put_value(const struct writer *out, const lr_idl_type *type, cons
     case LR_IDL_SEQUENCE: return put_sequence(out, type, value);
     case LR_IDL_ARRAY: return put_members(out, type->inner, type->count, value);
     case LR_IDL_STRUCT: return put_struct(out, type, value);
+    case LR_IDL_BODY: return put_body(out, value);
     default: return put_union(out, type, value);
   }
 }
 
 int64_t lr_idl_put(const lr_idl_type *type, void *room, size_t size, lr_place *place, const void *value) {
-  struct writer out = {room, size, place};
+  struct writer out = {room, size, place, 0};
   lr_place before = *place;
   int64_t done = put_value(&out, type, value);
   if (done < 0) *place = before;
@@ -601,7 +674,8 @@ int64_t lr_idl_perform(const lr_idl_offer *offer, lr_server *server, const lr_re
   } else {
     const lr_idl_method *method = method_of(offer->interface, octets, name_size);
     lr_place place = {asked->body_at, 0, asked->body_order, 0};
-    struct reader in = {octets + name_size, body_size, &place};
+    uint64_t left = limit_of(offer->limit, body_size);
+    struct reader in = {octets + name_size, body_size, &place, &left, 0};
     done = method == NULL ? LR_E_NONE : perform_by(method, offer->servant, &call, &in);
   }
   free(octets);
@@ -621,7 +695,7 @@ int64_t lr_idl_answer(const lr_idl_call *call, const lr_idl_operation *operation
   if (done < 0)
     done = answered_by(call, done);
   else if (operation->is_raw)
-    done = lr_server_answer_raw(call->server, call->ticket, LR_REPLY_NO_EXCEPTION, LR_ORDER_BIG, out.octets,
+    done = lr_server_answer_raw(call->server, call->ticket, LR_REPLY_NO_EXCEPTION, out.place.order, out.octets,
                                 (size_t)out.place.next);
   else
     done = lr_server_answer(call->server, call->ticket, LR_ORDER_BIG, out.octets, (size_t)out.place.next);
@@ -717,7 +791,7 @@ static int64_t get_address(const struct reader *in, uint64_t *host, uint64_t *si
 /* Adds the address that a component has, which is an encapsulation. One that is none says nothing. */
 static int64_t add_alternate(lr_idl_road *road, const struct profile *one, const unsigned char *octets, size_t size) {
   lr_place place = {0, 1, size == 0 ? 2 : octets[0], 0};
-  struct reader in = {octets, size, &place};
+  struct reader in = {octets, size, &place, NULL, 0};
   uint64_t host, length;
   uint16_t port;
   if (get_address(&in, &host, &length, &port) < 0) return LR_OK;
@@ -753,7 +827,7 @@ static int64_t get_profile(struct profile *one) {
 /* Adds the addresses of a profile of IIOP. One that is none says nothing. */
 static int64_t add_profile(lr_idl_road *road, const lr_idl_octet__sequence *data) {
   lr_place place = {0, 1, data->_length == 0 ? 2 : data->_buffer[0], 0};
-  struct profile one = {.in = {data->_buffer, data->_length, &place}};
+  struct profile one = {.in = {data->_buffer, data->_length, &place, NULL, 0}};
   if (get_profile(&one) < 0) return LR_OK;
   int64_t done = add_of(road, &one, data->_buffer + one.host, one.host_size, one.port);
   return done < 0 || one.minor == 0 ? done : add_components(road, &one);
@@ -782,6 +856,13 @@ static uint64_t now(void) {
   struct timespec time;
   clock_gettime(CLOCK_REALTIME, &time);
   return lr_moment((uint64_t)time.tv_sec, (uint32_t)time.tv_nsec);
+}
+
+/* What passed by a clock that nobody sets, in 100 ns. */
+static uint64_t passed(void) {
+  struct timespec time;
+  clock_gettime(CLOCK_MONOTONIC, &time);
+  return (uint64_t)time.tv_sec * LR_SECOND + (uint64_t)time.tv_nsec / 100;
 }
 
 static lr_idl_road *road_of(lr_idl_caller *caller) { return caller->is_led ? &caller->led : &caller->home; }
@@ -881,6 +962,14 @@ static uint64_t patience_of(const lr_idl_caller *caller, const lr_idl_road *road
   return road->count == 1 || share < most ? share : most;
 }
 
+/* Whether the address that is asked has said nothing for too long, and there is another way: another address, or the
+ * one to where a call was led from. */
+static bool is_mute(lr_idl_caller *caller) {
+  const lr_idl_road *road = road_of(caller);
+  const uint64_t most = caller->answer_timeout == 0 ? caller->patience / road->count : caller->answer_timeout;
+  return caller->is_sent && (caller->is_led || road->count > 1) && passed() - caller->since >= most;
+}
+
 /* Connects with the address that is to be asked. False where that fails. */
 static bool call_up(lr_idl_caller *caller) {
   const lr_idl_road *road = road_of(caller);
@@ -910,6 +999,7 @@ static bool send_due(lr_idl_caller *caller) {
   while ((size = lr_client_output(&caller->client, room, sizeof room)) > 0) {
     caller->is_sent = true;
     if (!send_all(caller->fd, room, (size_t)size)) return false;
+    caller->since = passed();
   }
   return size == 0;
 }
@@ -923,17 +1013,25 @@ static bool resend(lr_idl_caller *caller) {
   return false;
 }
 
-/* Sends what is due, and takes what comes, for a while. False where the connection is over. */
-static bool talk(lr_idl_caller *caller) {
+/* Takes what comes within so many ms: 1, or 0 where that is nothing; -1 where the connection is over. */
+static int hear(lr_idl_caller *caller, int within) {
   unsigned char room[PIECE];
-  if (!send_due(caller)) return false;
   struct pollfd waits = {caller->fd, POLLIN, 0};
-  int ready = poll(&waits, 1, WAIT);
-  if (ready == 0) return resend(caller);
-  if (ready < 0) return errno == EINTR;
+  int ready = poll(&waits, 1, within);
+  if (ready <= 0) return ready == 0 || errno == EINTR ? 0 : -1;
   ssize_t count = recv(caller->fd, room, sizeof room, 0);
+  caller->since = passed();
   return count > 0 && lr_client_feed(&caller->client, room, (size_t)count) >= 0 &&
-         lr_client_is_connected(&caller->client) == 1;
+                 lr_client_is_connected(&caller->client) == 1
+             ? 1
+             : -1;
+}
+
+/* Takes what comes, for a while. False where the connection is over, or left for the next address. */
+static bool talk(lr_idl_caller *caller) {
+  int heard = hear(caller, WAIT);
+  if (heard != 0) return heard > 0;
+  return !is_mute(caller) && resend(caller);
 }
 
 /* The completion of a call: 1, or 0 where it is pending. */
@@ -958,13 +1056,14 @@ struct tries {
   long delay;
 };
 
-/* Leaves an address for the next one, but for one that had answered on this connection. After each connection, and after
- * a round of addresses, it waits. False where a call was led to where nobody answers. */
+/* Leaves an address for the next one, but for one that had answered on this connection and was lost. After each
+ * connection, and after a round of addresses, it waits. False where a call was led to where nobody answers. */
 static bool move_on(lr_idl_caller *caller, struct tries *tries) {
   lr_idl_road *road = road_of(caller);
-  const bool was_there = caller->fd >= 0, was_heard = caller->is_heard;
+  const bool was_mute = caller->fd >= 0 && is_mute(caller), was_there = caller->fd >= 0 && !was_mute;
+  const bool was_heard = caller->is_heard;
   hang_up(caller);
-  if (was_heard) return true;
+  if (was_heard && !was_mute) return true;
   road->next = (road->next + 1) % road->count;
   tries->failed = was_there ? 0 : tries->failed + 1;
   if (caller->is_led && tries->failed == road->count) return false;
@@ -972,15 +1071,21 @@ static bool move_on(lr_idl_caller *caller, struct tries *tries) {
   return true;
 }
 
-/* Waits until a call has ended. AGAIN: nobody answers where it was led, and it is not pending there any more. */
+/* Waits until a call has ended. AGAIN: nobody answers where it was led, or it is oneway and could not be sent; and it
+ * is not pending any more. */
 static int64_t settle(lr_idl_caller *caller, int64_t call, lr_completion *ended) {
   struct tries tries = {0, FIRST_DELAY};
   for (;;) {
     int64_t done = lr_client_tick(&caller->client, now());
+    /* (a oneway call has ended as soon as it is due: so what is due is sent first) */
+    bool is_well = caller->fd < 0 || send_due(caller);
     if (done == LR_OK) done = completed(caller, call, ended);
-    if (done != 0) return done < 0 ? done : LR_OK;
-    if (caller->fd >= 0 ? talk(caller) : call_up(caller)) continue;
-    if (move_on(caller, &tries)) continue;
+    if (done < 0) return done;
+    if (done == 1 && (is_well || ended->how != LR_ENDED_SENT)) return LR_OK;
+    if (done == 0 && is_well && (caller->fd >= 0 ? talk(caller) : call_up(caller))) continue;
+    const bool goes_on = move_on(caller, &tries);
+    if (goes_on && done == 0) continue;
+    if (goes_on) return AGAIN;
     done = lr_client_cancel(&caller->client, call);
     forget(caller);
     return done < 0 ? done : AGAIN;
@@ -1005,7 +1110,7 @@ static int64_t call_by(const lr_idl_object *object, const lr_idl_operation *oper
   const size_t name_size = strlen(operation->name), size = (size_t)out->place.next;
   if (operation->is_raw || operation->is_oneway)
     return lr_client_call_raw(&caller->client, now(), expiration, operation->is_oneway ? LR_WISH_NONE : LR_WISH_FULL,
-                              key, key_size, operation->name, name_size, LR_ORDER_BIG, NULL, 0, out->octets, size);
+                              key, key_size, operation->name, name_size, out->place.order, NULL, 0, out->octets, size);
   return lr_client_call(&caller->client, now(), expiration, key, key_size, operation->name, name_size,
                         operation->arguments.codes, operation->arguments.codes_size, LR_ORDER_BIG, out->octets, size);
 }
@@ -1064,6 +1169,8 @@ static int64_t make_call(const lr_idl_object *object, const lr_idl_operation *op
   for (unsigned hops = 0;; hops++) {
     if (hops > 2) wait_longer(&delay);
     int64_t done = turn_to(object, last);
+    /* (of a oneway call nobody would hear that its connection is over) */
+    if (operation->is_oneway && caller->fd >= 0 && hear(caller, 0) < 0) hang_up(caller);
     if (done == LR_OK) done = call_by(object, operation, out, expiration);
     if (done == LR_E_EXPIRED && hops > 0) {
       *ended = (lr_completion){.how = LR_ENDED_EXPIRED};
@@ -1120,7 +1227,7 @@ static int64_t take_exception(const lr_idl_operation *operation, const struct re
   raised->members = malloc(exception->type->size);
   if (raised->members == NULL) return LR_E_MEMORY;
   raised->exception = exception;
-  done = lr_idl_get(exception->type, in->octets, in->size, in->place, raised->members);
+  done = get_whole(in, exception->type, raised->members);
   if (done == LR_OK && in->place->next != in->size) done = LR_E_VALUE;
   return done < 0 ? done : LR_ENDED_RAISED;
 }
@@ -1141,13 +1248,27 @@ static int64_t raise_unreached(const lr_idl_caller *caller, lr_idl_raised *raise
   return raised->id == NULL ? LR_E_MEMORY : LR_ENDED_SYSTEM;
 }
 
+/* Whether the results of an operation are octets. */
+static bool has_body(const lr_idl_operation *operation) {
+  return operation->results.count == 1 && operation->results.types[0]->kind == LR_IDL_BODY;
+}
+
+/* Takes the octets of an exception. */
+static int64_t take_octets(const lr_idl_operation *operation, const struct reader *in, const void *const *arguments,
+                           void *const *results) {
+  int64_t done = take_results(operation, in, arguments, results);
+  return done < 0 ? done : LR_ENDED_RAISED;
+}
+
 /* Takes what came of a call, by its body. */
 static int64_t take(const lr_idl_operation *operation, uint32_t how, const struct reader *in,
                     const void *const *arguments, void *const *results, lr_idl_raised *raised) {
   switch (how) {
     case LR_ENDED_SENT: return LR_OK;
     case LR_ENDED_RETURNED: return take_results(operation, in, arguments, results);
-    case LR_ENDED_RAISED: return take_exception(operation, in, raised);
+    case LR_ENDED_RAISED:
+      return has_body(operation) ? take_octets(operation, in, arguments, results)
+                                 : take_exception(operation, in, raised);
     case LR_ENDED_SYSTEM: return take_system(in, raised);
     case LR_ENDED_EXPIRED: return LR_E_EXPIRED;
     default: return LR_E_OUTCOME;
@@ -1161,7 +1282,8 @@ static int64_t take_ended(const lr_idl_object *object, const lr_idl_operation *o
   unsigned char *octets = body_of(object->caller, ended);
   if (octets == NULL) return LR_E_MEMORY;
   lr_place place = {ended->body_at, 0, ended->body_order, 0};
-  struct reader in = {octets, (size_t)ended->body_size, &place};
+  uint64_t left = limit_of(object->caller->limit, (size_t)ended->body_size);
+  struct reader in = {octets, (size_t)ended->body_size, &place, &left, 0};
   int64_t done = take(operation, ended->how, &in, arguments, results, raised);
   free(octets);
   /* (the next call of the key is asked for at home) */

@@ -8,6 +8,10 @@
  * may point to anything: the in arguments of a stub, the results of a servant. What a stub hands out is yours to free;
  * of an inout argument it frees the old value. What a servant is given is lent until it returns: TYPE__copy keeps it.
  *
+ * What is made of the octets of a peer takes at most 65536 octets of memory and 16 times as many as these, or what a
+ * `limit` says, 0 where nothing is said: so many octets of members of sequences, texts and octets. LR_E_VALUE beyond.
+ * Sequences stand in sequences 64 deep at most: LR_E_VALUE where they are read, LR_E_RANGE where they are written.
+ *
  * Results are those of lemonrudder.h: below 0 an error LR_E_.., and then no value was handed out.
  */
 #ifndef LEMONRUDDER_IDL_H
@@ -15,6 +19,10 @@
 
 #include <lemonrudder.h>
 #include <stdbool.h>
+
+#if LR_VERSION_MAJOR != 0 || LR_VERSION_MINOR != 2
+#error "this was made of IDL for lemonrudder.h of version 0.2: make it anew"
+#endif
 
 #ifdef __cplusplus
 extern "C" {
@@ -40,7 +48,8 @@ enum {
   LR_IDL_SEQUENCE,
   LR_IDL_ARRAY,
   LR_IDL_STRUCT,
-  LR_IDL_UNION
+  LR_IDL_UNION,
+  LR_IDL_BODY
 };
 
 typedef struct lr_idl_type lr_idl_type;
@@ -101,6 +110,18 @@ typedef struct { uint32_t _length; uint64_t *_buffer; } lr_idl_ulonglong__sequen
 typedef struct { uint32_t _length; float *_buffer; } lr_idl_float__sequence;
 typedef struct { uint32_t _length; double *_buffer; } lr_idl_double__sequence;
 typedef struct { uint32_t _length; char **_buffer; } lr_idl_string__sequence;
+
+/* The body of a message of an operation whose types can't be made: octets in an order, LR_ORDER_.., the first of which
+ * stands at a place, from which they are aligned. In one that you hand in that is a multiple of 8. */
+typedef struct {
+  uint32_t order;
+  uint64_t at;
+  lr_idl_octet__sequence octets;
+} lr_idl_body;
+
+extern const lr_idl_type lr_idl_body__type;
+
+static inline void lr_idl_body__free(lr_idl_body *body) { lr_idl_free(&lr_idl_body__type, body); }
 
 /* ---- references ---- */
 
@@ -171,6 +192,7 @@ typedef struct {
   size_t key_size;
   const lr_idl_interface *interface;
   const void *servant;
+  uint64_t limit; /* of the arguments of a call */
 } lr_idl_offer;
 
 /* Adds the object of an offer to a catalogue, with its repository ids and operations. Errors as of lr_catalogue_..: the
@@ -182,10 +204,10 @@ const lr_idl_offer *lr_idl_find(const lr_idl_offer *offers, size_t count, lr_ser
 
 /* Has the request that waits performed by the servant of an offer, whatever its key is, and answers what the function
  * of the servant did: below 0 an error, with which the request may wait still. _is_a and _non_existent are answered.
- * Arguments that are not of their types are answered MARSHAL, want of memory NO_MEMORY, both COMPLETED_NO, and a
- * function that is NULL NO_IMPLEMENT. Where the function answers LR_E_OUTCOME, as for an exception that its operation
- * does not declare, the request is answered UNKNOWN, COMPLETED_MAYBE. LR_E_NONE: it is no operation of the interface,
- * or would be refused (LR_SET_ASK_FIRST), and now is. */
+ * Arguments that are not of their types, or pass the limit, are answered MARSHAL, want of memory NO_MEMORY, both
+ * COMPLETED_NO, and a function that is NULL NO_IMPLEMENT. Where the function answers LR_E_OUTCOME, as for an exception
+ * that its operation does not declare, the request is answered UNKNOWN, COMPLETED_MAYBE. LR_E_NONE: it is no operation
+ * of the interface, or would be refused (LR_SET_ASK_FIRST), and now is. */
 int64_t lr_idl_perform(const lr_idl_offer *offer, lr_server *server, const lr_request *asked);
 
 /* What stands below the functions that are made. Answers a call by the values of its results: LR_E_OUTCOME where it is
@@ -219,13 +241,17 @@ typedef struct {
 #define LR_IDL_ROAD {NULL, 0, 0, 2, NULL, 0}
 
 /* Makes calls over TCP, one at a time, and waits for each: it is sent again under its number on each new connection,
- * and after TRANSIENT, until it is answered or expires. An address that can't be reached, is lost without an answer, or
- * answers TRANSIENT is left for the next one. A call that is forwarded is asked for where it leads, and so are later
- * ones of its key, until nobody answers there. Its client id is random. But for `patience` it is not yours to change. */
+ * and after TRANSIENT, until it is answered or expires. An address that can't be reached, is lost without an answer,
+ * answers TRANSIENT, or says nothing for `answer_timeout` is left for the next one. A call that is forwarded is asked
+ * for where it leads, and so are later ones of its key, until nobody answers there. A oneway call has ended once it is
+ * sent. Its client id is random. But for `patience`, `answer_timeout` and `limit` it is not yours to change. */
 typedef struct {
   lr_client client;
   int fd;            /* of its socket, -1 where it is not connected */
   uint64_t patience; /* how long calls that come are sent again, and a socket is waited for, in 100 ns: 60 seconds */
+  /* How long one of several addresses may say nothing to a call, in 100 ns; 0: its share of `patience`. */
+  uint64_t answer_timeout;
+  uint64_t limit; /* of what a reply has */
   lr_idl_road home;
   lr_idl_road led; /* where the last forward leads; it has no addresses where that counts no more */
   void *from;      /* the key that was forwarded */
@@ -236,10 +262,11 @@ typedef struct {
   bool is_heard; /* an answer came on this connection */
   bool is_sent;  /* a call was sent on it that is not answered */
   bool is_lost;  /* .. and on one before */
+  uint64_t since; /* when something was sent or came last, by a clock that nobody sets, in 100 ns */
 } lr_idl_caller;
 
 #define LR_IDL_CALLER \
-  {LR_INIT, -1, 0, LR_IDL_ROAD, LR_IDL_ROAD, NULL, 0, 0, {0}, false, false, false, false}
+  {LR_INIT, -1, 0, 0, 0, LR_IDL_ROAD, LR_IDL_ROAD, NULL, 0, 0, {0}, false, false, false, false, 0}
 
 /* Opens a caller of a server, which is LR_IDL_CALLER before. LR_E_OPEN, LR_E_MEMORY. */
 int64_t lr_idl_caller_open(lr_idl_caller *caller, const char *host, uint16_t port);
@@ -285,7 +312,7 @@ void lr_idl_raised_free(lr_idl_raised *raised);
  * forward to no address), LR_E_MEMORY (it may have been performed). Where no address can be reached as it expires, it
  * ends by TRANSIENT, COMPLETED_NO, or by COMM_FAILURE, COMPLETED_MAYBE, if a connection was lost on which it was sent.
  * `raised` may be NULL; what it held before is freed. A result that goes where an argument stands takes its place; one
- * whose place is NULL is freed. */
+ * whose place is NULL is freed. Of an operation of octets the result is the body of an exception too, behind its id. */
 int64_t lr_idl_invoke(const lr_idl_object *object, const lr_idl_operation *operation, const void *const *arguments,
                       void *const *results, lr_idl_raised *raised);
 

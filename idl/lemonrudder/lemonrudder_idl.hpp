@@ -14,6 +14,10 @@
 #include <tuple>
 #include <variant>
 
+#if LR_VERSION_MAJOR != 0 || LR_VERSION_MINOR != 2
+#error "this was made of IDL for lemonrudder.hpp of version 0.2: make it anew"
+#endif
+
 namespace lemonrudder {
 inline namespace v0_2 {
 namespace idl {
@@ -27,6 +31,20 @@ Done into(const Result<From>& from, To& to) {
   if (!from.ok()) return from.error();
   to = static_cast<To>(*from);
   return {};
+}
+
+/* Why a value of so many passes a bound. */
+inline std::string over(const char* kind, std::size_t size, std::size_t bound) {
+  return std::string("a ") + kind + " of " + std::to_string(size) + ", and the bound is " + std::to_string(bound);
+}
+
+/* Writes the members of a sequence or an array. */
+template <class Member, class Values>
+Done write_members(GrowingWriter& out, const Values& values) {
+  Done done;
+  std::size_t index = 0;
+  for (auto one = values.begin(); done && one != values.end(); ++one, ++index) done = Member::write(out, *one);
+  return done ? done : out.within("[" + std::to_string(index - 1) + "]", done);
 }
 
 }  // namespace detail
@@ -60,16 +78,34 @@ struct String {
     const auto text = in.get_string();
     if (!text) return text.error();
     if (Bound != 0 && text->size() > Bound) return Error(LR_E_VALUE);
-    value.assign(*text);
-    return {};
+    return in.claim(text->size()).transform([&] { value.assign(*text); });
   }
   static Done write(GrowingWriter& out, const std::string& value) {
-    if (Bound != 0 && value.size() > Bound) return Error(LR_E_RANGE);
-    return out.put_string(value).done();
+    if (Bound != 0 && value.size() > Bound) return out.refuse(detail::over("string", value.size(), Bound));
+    const Done done = out.put_string(value).done();
+    return done.error() == LR_E_TEXT ? out.refuse("a NUL in a string", LR_E_TEXT) : done;
   }
 };
 
-/* A sequence of at most so many members, likewise. */
+namespace detail {
+
+/* Stands while a sequence is read or written: how many do in this thread, one in another. */
+class Deeper {
+ public:
+  Deeper() noexcept { depth++; }
+  ~Deeper() { depth--; }
+  Deeper(const Deeper&) = delete;
+  Deeper& operator=(const Deeper&) = delete;
+  bool is_ok() const noexcept { return depth <= 64; }
+
+ private:
+  static inline thread_local unsigned depth = 0;
+};
+
+}  // namespace detail
+
+/* A sequence of at most so many members, likewise; and of sequences in sequences at most 64. What is read
+ * takes no more memory than Reader::limit says. */
 template <class Member, std::size_t Bound = 0>
 struct Sequence {
   using Value = std::vector<typename Member::Value>;
@@ -77,19 +113,24 @@ struct Sequence {
     const Count count = in.get_count();
     if (!count) return count.error();
     if (Bound != 0 && *count > Bound) return Error(LR_E_VALUE);
+    const detail::Deeper deeper;
+    if (!deeper.is_ok()) return Error(LR_E_VALUE);
     value.clear();
     for (std::size_t index = 0; index < *count; index++) {
       typename Member::Value one{};
-      if (const Done done = Member::read(in, one); !done) return done;
+      Done done = in.claim(sizeof one);
+      if (done) done = Member::read(in, one);
+      if (!done) return done;
       value.push_back(std::move(one));
     }
     return {};
   }
   static Done write(GrowingWriter& out, const Value& value) {
-    if (Bound != 0 && value.size() > Bound) return Error(LR_E_RANGE);
-    Done done = out.put_count(value.size()).done();
-    for (auto one = value.begin(); done && one != value.end(); ++one) done = Member::write(out, *one);
-    return done;
+    const detail::Deeper deeper;
+    if (!deeper.is_ok()) return out.refuse("sequences more than 64 deep");
+    if (Bound != 0 && value.size() > Bound) return out.refuse(detail::over("sequence", value.size(), Bound));
+    const Done done = out.put_count(value.size()).done();
+    return done ? detail::write_members<Member>(out, value) : done;
   }
 };
 
@@ -101,11 +142,7 @@ struct Array {
     for (auto one = value.begin(); done && one != value.end(); ++one) done = Member::read(in, *one);
     return done;
   }
-  static Done write(GrowingWriter& out, const Value& value) {
-    Done done;
-    for (auto one = value.begin(); done && one != value.end(); ++one) done = Member::write(out, *one);
-    return done;
-  }
+  static Done write(GrowingWriter& out, const Value& value) { return detail::write_members<Member>(out, value); }
 };
 
 /* An enum of so many names, from 0 up. */
@@ -114,7 +151,8 @@ struct Enumeration {
   using Value = Enum;
   static Done read(Reader& in, Enum& value) { return detail::into(in.get_enum(Names), value); }
   static Done write(GrowingWriter& out, Enum value) {
-    return static_cast<std::uint32_t>(value) < Names ? out.put_enum(value).done() : Done(Error(LR_E_RANGE));
+    const auto number = static_cast<std::uint32_t>(value);
+    return number < Names ? out.put_enum(value).done() : out.refuse(std::to_string(number) + " is no name of the enum");
   }
 };
 
@@ -214,8 +252,13 @@ struct Codecs {
     static_cast<void>(out);
     return each([&] { return Codec::write(out, values); }...);
   }
-  static Done write_all(GrowingWriter& out, const Values& values) {
-    return std::apply([&](const auto&... one) { return write(out, one...); }, values);
+  /* .. each of which has a name. */
+  static Done write_named(GrowingWriter& out, const std::array<const char*, sizeof...(Codec)>& names,
+                          const typename Codec::Value&... values) {
+    [[maybe_unused]] std::size_t index = 0;
+    static_cast<void>(names);
+    static_cast<void>(out);
+    return each([&] { return out.within(names[index++], Codec::write(out, values)); }...);
   }
 
  private:
@@ -326,17 +369,29 @@ class Servant {
   Servant(const Servant&) = delete;
   Servant& operator=(const Servant&) = delete;
   virtual ~Servant() = default;
+  /* How much memory the arguments of a call may take; 0: what Reader::limit says of a new one. */
+  std::uint64_t _limit = 0;
 };
 
-/* What a loop has performed for an operation: arguments that are none of their types are answered MARSHAL. */
-template <class Operation, class Call>
-Loop::Servant performer(Call call) {
-  return [call](Asked& asked) -> Done {
+/* Whose servant a loop asks: the one of an object, or that of a key of a family, if there is one. */
+template <class Interface>
+std::function<Interface*(Octets)> always(Interface* servant) {
+  return [servant](Octets) { return servant; };
+}
+
+/* What a loop has performed for an operation: arguments that are none of their types, or pass the limit of the servant,
+ * are answered MARSHAL; where there is no servant, OBJECT_NOT_EXIST. */
+template <class Operation, class Interface, class Call>
+Loop::Servant performer(std::function<Interface*(Octets)> servant_of, Call call) {
+  return [servant_of, call](Asked& asked) -> Done {
+    Interface* const servant = servant_of(asked.key());
+    if (servant == nullptr) return asked.refuse(SystemException::object_not_exist);
     typename Operation::_arguments::Values values{};
     Reader in = asked.arguments();
+    if (servant->_limit != 0) in.limit(servant->_limit);
     if (!Operation::_arguments::read(in, values)) return asked.refuse(SystemException::marshal);
     Asking<Operation> asking(asked);
-    return std::apply([&](const auto&... one) { return call(asking, one...); }, values);
+    return std::apply([&](const auto&... one) { return call(*servant, asking, one...); }, values);
   };
 }
 
@@ -358,7 +413,8 @@ class [[nodiscard]] Outcome {
   template <class Held>
   explicit Outcome(std::in_place_t, Held held) : held_(std::move(held)) {}
   Outcome(Value value) : held_(std::in_place_index<0>, std::move(value)) {}
-  Outcome(Error error) : held_(error) {}
+  Outcome(Error error) : held_(error), why_(error.text()) {}
+  Outcome(Error error, std::string why) : held_(error), why_(std::move(why)) {}
 
   bool ok() const noexcept { return held_.index() == 0; }
   explicit operator bool() const noexcept { return ok(); }
@@ -374,9 +430,12 @@ class [[nodiscard]] Outcome {
     const Error* const found = std::get_if<Error>(&held_);
     return found == nullptr ? Error(LR_OK) : *found;
   }
+  /* .. in a line: of an argument which one, and what it passes. */
+  const std::string& why() const noexcept { return why_; }
 
  private:
   std::variant<Value, Raised..., SystemRaised, Error> held_;
+  std::string why_;
 };
 
 /* The result of no types, of one, or of several. */
@@ -400,7 +459,12 @@ struct ResultOf<> {
 struct Reply {
   Completion completion;
   std::vector<std::uint8_t> body;
-  Reader reader() const noexcept { return Reader(Octets(body), completion.byte_order(), completion.body_at); }
+  std::uint64_t limit = 0;  // of what is read of it; 0: that of a new Reader
+  Reader reader() const noexcept {
+    Reader made(Octets(body), completion.byte_order(), completion.body_at);
+    if (limit != 0) made.limit(limit);
+    return made;
+  }
 };
 
 /* Where objects are asked for: addresses in order, of servers that share their outcomes, and the key of an object. */
@@ -464,11 +528,11 @@ struct Road {
 };
 
 /* Makes calls over TCP, one at a time, and waits for each: it is sent again under its number on each new connection,
- * and after TRANSIENT, until it is answered or expires. An address that can't be reached, is lost without an answer, or
- * answers TRANSIENT is left for the next one. A call that is forwarded is asked for where it leads, and so are later
- * ones of its key, until nobody answers there. Where no address can be reached as it expires, it ends by TRANSIENT,
- * COMPLETED_NO, or by COMM_FAILURE, COMPLETED_MAYBE, if a connection was lost on which it was sent. Its client id is
- * random. */
+ * and after TRANSIENT, until it is answered or expires. An address that can't be reached, is lost without an answer,
+ * answers TRANSIENT, or says nothing for a time is left for the next one. A call that is forwarded is asked for where it
+ * leads, and so are later ones of its key, until nobody answers there. A oneway call has ended once it is sent. Where no
+ * address can be reached as it expires, it ends by TRANSIENT, COMPLETED_NO, or by COMM_FAILURE, COMPLETED_MAYBE, if a
+ * connection was lost on which it was sent. Its client id is random. */
 class Caller {
  public:
   static Result<Caller> open(std::string host, std::uint16_t port) {
@@ -495,6 +559,10 @@ class Caller {
   Octets key() const noexcept { return home_.key; }
   /* How long the calls that come are sent again. */
   void patience(std::chrono::milliseconds patience) noexcept { patience_ = patience; }
+  /* How long one of several addresses may say nothing to a call; 0, as at first: its share of the patience. */
+  void answer_timeout(std::chrono::milliseconds most) noexcept { answer_timeout_ = most; }
+  /* How much memory what a reply has may take; 0, as at first: what Reader::limit says of a new one. */
+  void limit(std::uint64_t octets) noexcept { limit_ = octets; }
   std::uint64_t expiration() const noexcept {
     return now() + static_cast<std::uint64_t>(patience_.count()) * (LR_SECOND / 1000);
   }
@@ -502,7 +570,11 @@ class Caller {
     return make(call, [this](const Call& one) { return client_.call(now(), one); });
   }
   Result<Reply> call_raw(const RawCall& call) {
-    return make(call, [this](const RawCall& one) { return client_.call_raw(now(), one); });
+    return make(call, [this](const RawCall& one) {
+      // (of a oneway call nobody would hear that its connection is over)
+      if (one.wish == Wish::none && socket_.is_open() && !hear(0).value_or(true)) drop();
+      return client_.call_raw(now(), one);
+    });
   }
 
  private:
@@ -575,16 +647,22 @@ class Caller {
     return true;
   }
 
-  /* Waits until a call has ended. Without a reply: nobody answers where it was led, and it is not pending there. */
+  /* Waits until a call has ended. Without a reply: nobody answers where it was led, or it is oneway and could not be
+   * sent; and it is not pending any more. */
   Result<std::optional<Reply>> settle(std::int64_t call) {
     std::size_t failed = 0;
     for (Milliseconds delay = first_delay;;) {
       if (const Done done = client_.tick(now()); !done) return done.error();
+      // (a oneway call has ended as soon as it is due: so what is due is sent first)
+      const bool is_well = !socket_.is_open() || send_due();
       auto ended = client_.completed();
       if (!ended) return ended.error();
-      if (*ended && (*ended)->call == call) return ended_by(**ended);
-      if (socket_.is_open() ? talk() : connect()) continue;
-      if (move_on(failed, delay)) continue;
+      const bool has_ended = *ended && (*ended)->call == call;
+      if (has_ended && (is_well || (*ended)->ended() != Ended::sent)) return ended_by(**ended);
+      if (!has_ended && is_well && (socket_.is_open() ? talk() : connect())) continue;
+      const bool goes_on = move_on(failed, delay);
+      if (goes_on && !has_ended) continue;
+      if (goes_on) return std::optional<Reply>();
       const auto cancelled = client_.cancel(call);
       if (!cancelled.ok()) return cancelled.error();
       led_ = Road();
@@ -599,7 +677,7 @@ class Caller {
     auto body = client_.body();
     // (a call that expired, or wished for no reply, has none)
     if (!body && body.error() != LR_E_NONE) return body.error();
-    return std::optional<Reply>(Reply{ended, std::move(body).value_or(std::vector<std::uint8_t>())});
+    return std::optional<Reply>(Reply{ended, std::move(body).value_or(std::vector<std::uint8_t>()), limit_});
   }
 
   /* The system exception by which a call ends where no address can be reached. */
@@ -619,13 +697,14 @@ class Caller {
     delay = std::min(2 * delay, Milliseconds(1000));
   }
 
-  /* Leaves an address for the next one, but for one that had answered on this connection. After each connection, and
-   * after a round of addresses, it waits. False where a call was led to where nobody answers. */
+  /* Leaves an address for the next one, but for one that had answered on this connection and was lost. After each
+   * connection, and after a round of addresses, it waits. False where a call was led to where nobody answers. */
   bool move_on(std::size_t& failed, Milliseconds& delay) {
-    const bool was_there = socket_.is_open(), was_heard = is_heard_;
+    const bool was_mute = socket_.is_open() && is_mute(), was_there = socket_.is_open() && !was_mute;
+    const bool was_heard = is_heard_;
     const std::size_t count = road().addresses.size();
     drop();
-    if (was_heard) return true;
+    if (was_heard && !was_mute) return true;
     road().next = (road().next + 1) % count;
     failed = was_there ? 0 : failed + 1;
     if (is_led_ && failed == count) return false;
@@ -672,6 +751,7 @@ class Caller {
       if (*size == 0) return true;
       is_sent_ = true;
       if (!send_all({room, *size})) return false;
+      since_ = Clock::now();
     }
   }
 
@@ -695,18 +775,32 @@ class Caller {
     return false;
   }
 
-  /* Sends what is due, and takes what comes, for a while. False where the connection is over. */
-  bool talk() {
+  /* Whether the address that is asked has said nothing for too long, and there is another way: another address, or the
+   * one to where a call was led from. */
+  bool is_mute() {
+    const auto count = static_cast<Milliseconds::rep>(road().addresses.size());
+    const Milliseconds most = answer_timeout_.count() == 0 ? patience_ / count : answer_timeout_;
+    return is_sent_ && (is_led_ || count > 1) && Clock::now() - since_ >= most;
+  }
+
+  /* Takes what comes within so many ms, and answers whether the connection goes on; LR_E_NONE: nothing came. */
+  Result<bool> hear(int within) {
     std::uint8_t room[4096];
-    if (!send_due()) return false;
     pollfd waits{socket_.fd(), POLLIN, 0};
-    const int ready = poll(&waits, 1, 100);
-    if (ready == 0) return resend();
-    if (ready < 0) return errno == EINTR;
-    const ssize_t count = recv(socket_.fd(), room, sizeof room, 0);
+    const int ready = poll(&waits, 1, within);
+    if (ready == 0 || (ready < 0 && errno == EINTR)) return Error(LR_E_NONE);
+    const ssize_t count = ready < 0 ? -1 : recv(socket_.fd(), room, sizeof room, 0);
+    since_ = Clock::now();
     return count > 0 && client_.feed({room, static_cast<std::size_t>(count)}).ok() && client_.is_connected();
   }
 
+  /* Takes what comes, for a while. False where the connection is over, or left for the next address. */
+  bool talk() {
+    const Result<bool> heard = hear(100);
+    return heard.ok() ? *heard : !is_mute() && resend();
+  }
+
+  using Clock = std::chrono::steady_clock;
   static constexpr Milliseconds first_delay{20};
 
   Client client_;
@@ -720,6 +814,9 @@ class Caller {
   bool is_sent_ = false;   // a call was sent on it that is not answered
   bool is_lost_ = false;   // .. and on one before
   std::chrono::milliseconds patience_{60000};
+  std::chrono::milliseconds answer_timeout_{0};
+  std::uint64_t limit_ = 0;
+  Clock::time_point since_;  // when something was sent or came last
   lemonrudder::detail::Descriptor socket_;
 };
 
@@ -735,7 +832,8 @@ class Stub {
   template <class Operation, class... Values>
   typename Operation::_outcome _call(const Values&... values) const {
     GrowingWriter out;
-    if (const Done done = Operation::_arguments::write(out, values...); !done) return done.error();
+    const Done done = Operation::_arguments::write_named(out, Operation::_parameters, values...);
+    if (!done) return {done.error(), std::string(Operation::_name) + ": " + out.why()};
     const std::uint64_t expiration = caller_->expiration();
     const auto reply = [&] {
       if (Operation::_is_raw || Operation::_is_oneway)
@@ -745,6 +843,13 @@ class Stub {
     }();
     if (!reply) return reply.error();
     return _ended<Operation>(*reply, typename Operation::_raises());
+  }
+
+  /* Calls an operation by the octets of its arguments. */
+  Result<Reply> _call_octets(std::string_view name, bool is_oneway, const GrowingWriter& body) const {
+    if (const Done done = body.done(); !done) return done.error();
+    const Wish wish = is_oneway ? Wish::none : Wish::full;
+    return caller_->call_raw({key_, name, caller_->expiration(), body.octets(), body.order(), wish});
   }
 
  private:

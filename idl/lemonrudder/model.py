@@ -3,6 +3,7 @@
 A type is one of Basic, String, Sequence, Array, Reference, or a declaration (Enum, Struct, Union, Alias).
 """
 import os
+import sys
 from dataclasses import dataclass, field
 from typing import Dict, List, Optional, Tuple
 
@@ -21,7 +22,15 @@ LEFT_OUT = {
     idltype.tk_native: "a native type", idltype.tk_abstract_interface: "an abstract interface",
     idltype.tk_local_interface: "a local interface",
 }
-HINT = "it is left out; an operation with it can be served and called as a raw operation, by its octets"
+HINT = "it is left out; by -Wbpartial an operation with it is a raw one, which is served and called by its octets"
+# the version of the library, on whose headers and packages stands what is made: those of its series serve it
+VERSION = (0, 2, 0)
+SERIES = 2 if VERSION[0] == 0 else 1
+LEAST = VERSION[0] << 16 | VERSION[1] << 8 | VERSION[2]
+# .. in C and C++: whether it is that of the headers
+IS_VERSION = f"""#if LR_VERSION_NUMBER < {LEAST} || LR_VERSION_NUMBER >> {8 * (3 - SERIES)} != {LEAST >> 8 * (3 - SERIES)}
+#error "made for lemonrudder {'.'.join(map(str, VERSION))}: make it anew by omniidl"
+#endif"""
 # the sizes of what the library's types can spell
 MEMBERS = NAMES = ELEMENTS = 255
 
@@ -80,6 +89,9 @@ class Declared:
     line: int
     is_here: bool
 
+    # whether a Forward of it stands before
+    has_forward = False
+
     @property
     def name(self) -> str:
         return self.scope[-1]
@@ -113,6 +125,13 @@ class Struct(Declared):
 
 
 @dataclass(eq=False)
+class Forward(Declared):
+    """Stands before what names a struct or a union that is not whole there, as one that holds itself."""
+
+    of: Declared
+
+
+@dataclass(eq=False)
 class Case:
     """A member of a union: its labels, the default one None."""
 
@@ -134,7 +153,8 @@ class Exceptional(Declared):
 
 @dataclass(eq=False)
 class Operation:
-    """An operation of the wire. accessor: of an attribute its name, and whether it is set."""
+    """An operation of the wire. attribute: the name of that whose it is. is_octets: its types can't be made, so that it
+    has none here, and is served and called by octets."""
 
     name: str
     parameters: List[Tuple[str, str, object]]
@@ -143,11 +163,16 @@ class Operation:
     is_oneway: bool
     line: int
     attribute: Optional[str] = None
+    is_octets: bool = False
 
     @property
     def arguments(self) -> List[Tuple[str, object]]:
         """The in and inout parameters."""
         return [(name, type) for how, name, type in self.parameters if how != "out"]
+
+    @property
+    def is_setter(self) -> bool:
+        return self.attribute is not None and self.name.startswith("_set_")
 
     @property
     def outs(self) -> List[Tuple[str, object]]:
@@ -178,6 +203,26 @@ class Interface(Declared):
         """Its operations, and those that it inherits."""
         return [one for interface in (*reversed(self.all_bases), self) for one in interface.operations]
 
+    @property
+    def constructed(self) -> List["Interface"]:
+        """Its bases and theirs, each once, and behind those that it has itself: as C++ constructs virtual bases."""
+        found: List[Interface] = []
+        for base in self.bases:
+            found += [one for one in (*base.constructed, base) if one not in found]
+        return found
+
+    @property
+    def depth(self) -> int:
+        """How many interfaces stand above it, one above the other."""
+        return 1 + max((base.depth for base in self.bases), default=0)
+
+    @property
+    def own_bases(self) -> List["Interface"]:
+        """Its bases but for those that another one has, in an order that all interfaces have: Python wants one."""
+        inherited = [one for base in self.bases for one in base.all_bases]
+        return sorted((base for base in self.bases if base not in inherited), reverse=True,
+                      key=lambda base: (base.depth, base.scope))
+
 
 @dataclass
 class Unit:
@@ -195,6 +240,21 @@ class Unit:
     @property
     def here(self) -> List[Declared]:
         return [one for one in self.declarations if one.is_here]
+
+    @property
+    def whole(self) -> List[Declared]:
+        """Its declarations, each once."""
+        return [one for one in self.declarations if not isinstance(one, Forward)]
+
+    @property
+    def used(self) -> List[Declared]:
+        """What is declared in files that it includes, and named in it."""
+        names = {one for here in self.here for one in named_by(here)}
+        return [one for one in self.whole if not one.is_here and one in names]
+
+    @property
+    def used_files(self) -> List[str]:
+        return list(dict.fromkeys(base_of(one.file) for one in self.used))
 
 
 class Names:
@@ -229,6 +289,11 @@ def written(name: str, text: str) -> None:
         file.write(text)
 
 
+def warn(line: str) -> None:
+    """Says something on standard error."""
+    print(line, file=sys.stderr)
+
+
 def resolved(type: object) -> object:
     """A type without its aliases."""
     while isinstance(type, Alias):
@@ -236,59 +301,133 @@ def resolved(type: object) -> object:
     return type
 
 
-def can_spell(type: object) -> bool:
-    """Whether the library's types can spell a type. (A bound they can't; it is checked beside them.)"""
+def can_spell(type: object, around: Tuple[object, ...] = ()) -> bool:
+    """Whether the library's types can spell a type. (A bound they can't; it is checked beside them.) around: what it is
+    in."""
     type = resolved(type)
     if isinstance(type, Sequence):
-        return can_spell(type.member)
+        return can_spell(type.member, around)
     if isinstance(type, Array):
-        return type.size <= ELEMENTS and can_spell(type.member)
+        return type.size <= ELEMENTS and can_spell(type.member, around)
     if isinstance(type, Struct):
-        return len(type.members) <= MEMBERS and all(can_spell(member) for _, member in type.members)
+        return len(type.members) <= MEMBERS and type not in around and all(
+            can_spell(member, (*around, type)) for _, member in type.members)
     if isinstance(type, Enum):
         return len(type.names) <= NAMES
     return not isinstance(type, Union)
+
+
+def types_of(one: object) -> List[object]:
+    """The types that a declaration or an operation names."""
+    if isinstance(one, (Const, Alias)):
+        return [one.type]
+    if isinstance(one, (Struct, Exceptional)):
+        return [type for _, type in one.members]
+    if isinstance(one, Union):
+        return [one.switch, *(case.type for case in one.cases)]
+    if isinstance(one, Operation):
+        return [type for _, type in one.arguments + one.results] + list(one.raises)
+    return [type for operation in getattr(one, "operations", ()) for type in types_of(operation)]
+
+
+def named_in(type: object) -> List[Declared]:
+    """The declarations that a type names; of an enum by another name also that of the enum."""
+    while isinstance(type, (Sequence, Array)):
+        type = type.member
+    found = [type] if isinstance(type, Declared) else []
+    return found + ([resolved(type)] if isinstance(resolved(type), Enum) else [])
+
+
+def named_by(one: Declared) -> List[Declared]:
+    """The declarations that a declaration names."""
+    return [*getattr(one, "bases", ()), *(named for type in types_of(one) for named in named_in(type))]
+
+
+def all_named(due: List[Declared]) -> List[Declared]:
+    """Declarations, those that they name, and so on."""
+    found: Dict[Declared, bool] = {}
+    due = list(due)
+    while due:
+        one = due.pop()
+        if one not in found:
+            found[one] = True
+            due += named_by(one)
+    return list(found)
+
+
+def holds_itself(one: Declared) -> bool:
+    """Whether values of a declaration may hold others of it."""
+    return one in all_named(named_by(one))
+
+
+def is_nested(operation: Operation) -> bool:
+    """Whether values of an operation may hold others of their own type."""
+    return any(map(holds_itself, all_named([named for type in types_of(operation) for named in named_in(type)])))
 
 
 def is_raw(operation: Operation) -> bool:
     """Whether an operation is raw, since the library's types can't spell all of its types."""
     types = [type for _, type in operation.arguments + operation.results]
     types += [type for one in operation.raises for _, type in one.members]
-    return not all(map(can_spell, types))
+    return operation.is_octets or not all(map(can_spell, types))
 
 
 class Reading:
-    """Reads declarations of omniidl."""
+    """Reads declarations of omniidl. is_partial: what can't be made is left out, and an operation with it is one of
+    octets; else the file is refused for it."""
 
-    def __init__(self) -> None:
+    def __init__(self, is_partial: bool = False) -> None:
+        self.is_partial = is_partial
         self.found: Dict[str, Declared] = {}
         self.order: List[Declared] = []
         self.modules: Dict[Tuple[str, ...], bool] = {}
+        # a line each: for what the file is refused, or what is left out
         self.faults: List[str] = []
-        # the scopes of what was refused in a file that is included
+        # the scopes of what was refused in a file that is included, or is left out
         self.absent: Dict[Tuple[str, ...], str] = {}
+        # what is declared, and not whole yet, by what stands for it in the order
+        self.forwards: Dict[Declared, Forward] = {}
 
     def read(self, declarations: List[object]) -> None:
         """Reads declarations in order."""
         for one in declarations:
             if isinstance(one, idlast.Module):
-                scope = tuple(one.scopedName())
-                self.modules[scope] = self.modules.get(scope, False) or bool(one.mainFile())
+                self.scope(one)
                 self.read(one.definitions())
                 continue
             try:
                 self.declaration(one)
             except Fault as fault:
-                self.refuse(one, fault)
+                self.refuse(one, fault, "it is left out")
 
-    def refuse(self, one: object, fault: Fault) -> None:
-        """Notes that a declaration is refused: in a file that is included that counts only where it is used."""
+    def scope(self, one: object) -> None:
+        """Notes a module, or what is as one since it is left out itself."""
+        scope = tuple(one.scopedName())
+        self.modules[scope] = self.modules.get(scope, False) or bool(one.mainFile())
+
+    def refuse(self, one: object, fault: Fault, how: str) -> None:
+        """Notes that a declaration is refused, or how it is made: in a file that is included that counts only where it
+        is used."""
         part = fault.part or one
         if one.mainFile():
-            self.faults.append(f"{part.file()}:{part.line()}: {fault}")
+            said = f"Warning: {fault}: {how}" if self.is_partial else f"{fault}: {HINT}"
+            self.faults.append(f"{part.file()}:{part.line()}: {said}")
         for name in one.declarators() if isinstance(one, idlast.Typedef) else [one]:
             if hasattr(name, "scopedName"):
-                self.absent[tuple(name.scopedName())] = str(fault)
+                self.lose(tuple(name.scopedName()), str(fault))
+        if self.is_partial and isinstance(one, (idlast.Interface, idlast.Value, idlast.ValueAbs)) and one.declarations():
+            self.scope(one)
+            self.read(one.declarations())
+
+    def lose(self, scope: Tuple[str, ...], text: str) -> None:
+        """Leaves a declaration out, and those that named it before it was whole."""
+        self.absent[scope] = text
+        lost = self.found.pop("::".join(scope), None)
+        for one in [one for one in self.order if lost is not None and (one is lost or lost in named_by(one))]:
+            self.order.remove(one)
+            if one is not lost:
+                self.lose(one.scope, f"{'::'.join(scope)}: {text}")
+        self.order = [one for one in self.order if lost is None or getattr(one, "of", None) is not lost]
 
     def part(self, part: object, type: object) -> object:
         """The type of a part of a declaration. Raises Fault, of that part."""
@@ -315,29 +454,48 @@ class Reading:
                 self.keep(Alias(*self.head(name), self.sized(self.type(one.aliasType()), name)))
         elif isinstance(one, idlast.Enum):
             self.keep(Enum(*self.head(one), [name.identifier() for name in one.enumerators()]))
-        elif isinstance(one, idlast.Struct):
-            if one.recursive():
-                raise Fault(f"{'::'.join(one.scopedName())} holds itself: {HINT}")
-            self.keep(Struct(*self.head(one), self.members(one)))
-        elif isinstance(one, idlast.Union):
-            if one.recursive():
-                raise Fault(f"{'::'.join(one.scopedName())} holds itself: {HINT}")
-            self.inner(one.constrType(), one.switchType())
-            switch = self.type(one.switchType())
-            self.keep(Union(*self.head(one), switch, self.cases(one)))
+        elif isinstance(one, (idlast.StructForward, idlast.UnionForward)):
+            if one.fullDecl() is not None and "::".join(one.scopedName()) not in self.found:
+                self.forward(one.fullDecl(), one)
+        elif isinstance(one, (idlast.Struct, idlast.Union)):
+            self.constructed(one)
         elif isinstance(one, idlast.Exception):
             self.keep(Exceptional(*self.head(one), self.members(one)))
         elif isinstance(one, idlast.Interface):
             self.interface(one)
         elif isinstance(one, idlast.Native):
-            raise Fault(f"{LEFT_OUT[idltype.tk_native]}: {HINT}")
-        elif isinstance(one, (idlast.ValueForward, idlast.Value, idlast.ValueAbs, idlast.ValueBox)):
-            raise Fault(f"{LEFT_OUT[idltype.tk_value]}: {HINT}")
+            raise Fault(LEFT_OUT[idltype.tk_native])
+        elif isinstance(one, (idlast.Value, idlast.ValueAbs, idlast.ValueBox)):
+            raise Fault(LEFT_OUT[idltype.tk_value])
+
+    def forward(self, full: object, one: object) -> None:
+        """A struct or a union that is named before it is whole."""
+        made = Struct(*self.head(full), []) if isinstance(full, idlast.Struct) else Union(*self.head(full), None, [])
+        self.found["::".join(made.scope)] = made
+        self.forwards[made] = Forward(made.scope, made.id, one.file(), one.line(), bool(one.mainFile()), made)
+        self.order.append(self.forwards[made])
+
+    def constructed(self, one: object) -> None:
+        """Reads a struct or a union. Raises Fault."""
+        if "::".join(one.scopedName()) not in self.found:
+            self.forward(one, one)
+        made = self.found["::".join(one.scopedName())]
+        if isinstance(one, idlast.Struct):
+            made.members = self.members(one)
+        else:
+            self.inner(one.constrType(), one.switchType())
+            made.switch = self.type(one.switchType())
+            made.cases = self.cases(one)
+        self.keep(made)
 
     def inner(self, is_new: object, type: object) -> None:
         """Reads a declaration that stands inside of another one."""
         if is_new and hasattr(type, "decl"):
-            self.declaration(type.decl())
+            try:
+                self.declaration(type.decl())
+            except Fault as fault:
+                self.lose(tuple(type.decl().scopedName()), str(fault))
+                raise
 
     def members(self, one: object) -> List[Tuple[str, object]]:
         found = []
@@ -368,7 +526,7 @@ class Reading:
         """A type. Raises Fault."""
         kind = one.kind()
         if kind in LEFT_OUT:
-            raise Fault(f"{LEFT_OUT[kind]}: {HINT}")
+            raise Fault(LEFT_OUT[kind])
         if kind in BASICS:
             return Basic(BASICS[kind])
         if kind == idltype.tk_string:
@@ -385,22 +543,26 @@ class Reading:
         if scope in self.absent:
             raise Fault(f"{'::'.join(scope)}: {self.absent[scope]}")
         if "::".join(scope) not in self.found:
-            raise Fault(f"{'::'.join(scope)}, which is not whole here: {HINT}")
+            raise Fault(f"{'::'.join(scope)}, which is not whole here")
         return self.found["::".join(scope)]
 
     def interface(self, one: object) -> None:
         """Reads an interface with what stands in it."""
-        for flag, kind in ((one.local(), idltype.tk_local_interface), (one.abstract(), idltype.tk_abstract_interface)):
-            if flag:
-                raise Fault(f"{LEFT_OUT[kind]}: {HINT}")
+        if one.local():
+            raise Fault(LEFT_OUT[idltype.tk_local_interface])
+        if one.abstract() and not self.is_partial:
+            raise Fault(LEFT_OUT[idltype.tk_abstract_interface])
         made = Interface(*self.head(one), [self.named(base) for base in one.inherits()])
         self.read(one.declarations())
         for callable in one.callables():
             try:
                 made.operations += self.operations(callable)
             except Fault as fault:
-                self.refuse(callable, fault)
-                self.absent[made.scope] = str(fault)
+                self.refuse(callable, fault, "the operation is a raw one")
+                if self.is_partial:
+                    made.operations += operations_of_octets(callable)
+                else:
+                    self.absent[made.scope] = str(fault)
         self.keep(made)
 
     def operations(self, one: object) -> List[Operation]:
@@ -414,11 +576,32 @@ class Reading:
                     found.append(Operation(f"_set_{name}", parameters, None, [], False, one.line(), name))
             return found
         if one.contexts():
-            raise Fault("a context clause: it is left out")
+            raise Fault("a context clause")
         result = None if one.returnType().kind() == idltype.tk_void else self.type(one.returnType())
         parameters = [(one.dirtext(), one.identifier(), self.type(one.paramType())) for one in one.parameters()]
         raises = [self.named(raised) for raised in one.raises()]
         return [Operation(one.identifier(), parameters, result, raises, bool(one.oneway()), one.line())]
+
+    def whole(self) -> List[Declared]:
+        """The declarations in order, with what stands for those alone that are named before they are whole."""
+        found: List[Declared] = []
+        for one in self.order:
+            if one in self.forwards:
+                at = found.index(self.forwards[one])
+                one.has_forward = holds_itself(one) or any(one in named_by(other) for other in found[at:])
+                if not one.has_forward:
+                    del found[at]
+            found.append(one)
+        return found
+
+
+def operations_of_octets(one: object) -> List[Operation]:
+    """An operation, or those of an attribute, without types."""
+    if not isinstance(one, idlast.Attribute):
+        return [Operation(one.identifier(), [], None, [], bool(one.oneway()), one.line(), None, True)]
+    verbs = ("_get_",) if one.readonly() else ("_get_", "_set_")
+    return [Operation(verb + name, [], None, [], False, one.line(), name, True)
+            for name in one.identifiers() for verb in verbs]
 
 
 def plain(value: object) -> object:
@@ -426,14 +609,16 @@ def plain(value: object) -> object:
     return tuple(value.scopedName()) if isinstance(value, idlast.Enumerator) else value
 
 
-def unit_of(tree: object) -> Unit:
-    """What a tree of omniidl says. Raises Refused."""
-    reading = Reading()
+def unit_of(tree: object, is_partial: bool = False) -> Unit:
+    """What a tree of omniidl says. Raises Refused; where it may be partial it says on standard error what it lacks."""
+    reading = Reading(is_partial)
     reading.read(tree.declarations())
-    if reading.faults:
+    if reading.faults and not is_partial:
         raise Refused(reading.faults)
+    for line in reading.faults:
+        warn(line)
     modules = [scope for scope, is_here in reading.modules.items() if is_here]
-    return Unit(tree.file(), reading.order, modules)
+    return Unit(tree.file(), reading.whole(), modules)
 
 
 CODES = {"float": "ULONG", "double": "ULONGLONG"}

@@ -56,14 +56,14 @@ def method_of(operation: model.Operation) -> str:
     """The method for an operation: of an attribute its name, and behind `set_` where it is set."""
     if operation.attribute is None:
         return snake(operation.name)
-    return snake(f"set_{operation.attribute}" if operation.arguments else operation.attribute)
+    return snake(f"set_{operation.attribute}" if operation.is_setter else operation.attribute)
 
 
 def marker_of(operation: model.Operation) -> str:
     """The type that stands for an operation."""
     if operation.attribute is None:
         return camel(operation.name)
-    return camel(operation.attribute + ("_setter" if operation.arguments else "_getter"))
+    return camel(operation.attribute + ("_setter" if operation.is_setter else "_getter"))
 
 
 def raised_names(operation: model.Operation) -> List[str]:
@@ -125,6 +125,8 @@ def check(unit: model.Unit) -> None:
     """Raises Refused where two names of the file would be one in Rust."""
     names = Names()
     for one in unit.here:
+        if isinstance(one, model.Forward):
+            continue
         names.declaration(one)
         names.parts(one, parts_of(one))
         if isinstance(one, model.Interface):

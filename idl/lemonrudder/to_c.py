@@ -9,11 +9,11 @@ import textwrap
 from typing import Dict, Iterable, Iterator, List, Set, Tuple
 
 from . import model, to_cpp, to_types
+from .macros import MACROS
 
-KEYWORDS = to_cpp.KEYWORDS | set("""restrict typeof typeof_unqual linux unix NULL EOF errno stdin stdout stderr offsetof
-strdupa strndupa""".split())
+KEYWORDS = to_cpp.KEYWORDS | MACROS | {"restrict", "typeof", "typeof_unqual"}
 # what the headers declare by themselves that a declaration of no module could be called
-TAKEN = set("""basename bcmp bcopy bzero ffs ffsl ffsll index locale_t max_align_t memccpy memchr memcmp memcpy memfrob
+TAKEN = to_cpp.NAMESPACES | set("""basename bcmp bcopy bzero ffs ffsl ffsll index locale_t max_align_t memccpy memchr memcmp memcpy memfrob
 memmem memmove mempcpy memrchr memset ptrdiff_t rawmemchr rindex self size_t stpcpy stpncpy strcasecmp strcasestr
 strcat strchr strchrnul strcmp strcoll strcpy strcspn strdup strerror strfry strlen strncasecmp strncat strncmp
 strncpy strndup strnlen strpbrk strrchr strsep strsignal strspn strstr strtok strverscmp strxfrm swab
@@ -26,6 +26,8 @@ VALUES = {"boolean": "bool", "char": "char", "octet": "uint8_t", "short": "int16
 RUNTIME = ("lemonrudder_idl.h", "lemonrudder_idl.c")
 HEAD = "/* Made of {file} by omniidl -blemonrudder -Wbc. Not to be changed by hand. */"
 Types = List[Tuple[str, object]]
+# the names of the file that stand outside of all others, which no parameter may hide
+OUTER: Set[str] = set()
 
 
 # ---- names ----
@@ -245,12 +247,21 @@ def function(head: str, call: str) -> List[str]:
     return [*wrapped(f"static inline {head} {{", "  " * 6), f"  {call};", "}"]
 
 
+def sequence_for(name: str) -> List[str]:
+    return [f"typedef struct {{ uint32_t _length; {name} *_buffer; }} {name}__sequence;"]
+
+
+def forward(one: model.Forward) -> List[str]:
+    """What is known of a struct or a union that is not whole yet."""
+    name = flat(one.scope)
+    return [f"typedef struct {name} {name};", *sequence_for(name), f"extern const lr_idl_type {name}__type;"]
+
+
 def functions_of(one: model.Declared) -> List[str]:
     """What reads, writes, copies and frees values of a type."""
     name, type = flat(one.scope), described(one)
-    lines = [f"typedef struct {{ uint32_t _length; {name} *_buffer; }} {name}__sequence;"]
-    lines = lines if not isinstance(one, model.Exceptional) else []
-    if type == f"&{name}__type":
+    lines = sequence_for(name) if not isinstance(one, model.Exceptional) and not one.has_forward else []
+    if type == f"&{name}__type" and not one.has_forward:
         lines.append(f"extern const lr_idl_type {name}__type;")
     place = "size_t _size, lr_place *_place"
     lines += function(f"int64_t {name}__get(const void *_octets, {place}, {taken(one, '_value')})",
@@ -271,14 +282,16 @@ def member(one: model.Declared, name: str) -> str:
     return identifier(name, *(type for _, type in one.members))
 
 
-def struct_of(name: str, lines: List[str]) -> List[str]:
-    return [f"typedef struct {name} {{", *(f"  {line};" for line in lines), f"}} {name};"]
+def struct_of(name: str, lines: List[str], has_forward: bool = False) -> List[str]:
+    before, after = ("", "") if has_forward else ("typedef ", f" {name}")
+    return [f"{before}struct {name} {{", *(f"  {line};" for line in lines), f"}}{after};"]
 
 
 def struct(one: model.Declared) -> List[str]:
     """A struct, or the members of an exception."""
     members = [declared(type, member(one, name)) for name, type in one.members] or ["char _none"]
-    return [*sequences_for(one.members), *struct_of(flat(one.scope), members), *functions_of(one)]
+    return [*sequences_for(one.members), *struct_of(flat(one.scope), members, one.has_forward),
+            *functions_of(one)]
 
 
 def exception(one: model.Exceptional) -> List[str]:
@@ -296,7 +309,8 @@ def union(one: model.Union) -> List[str]:
     members = [f"  {declared(case.type, member(one, case.name))};" for case in one.cases]
     inner = "\n".join(["union {", *(f"  {line}" for line in members), "  } _u"])
     cases = [(case.name, case.type) for case in one.cases]
-    return [*sequences_for(cases), *struct_of(flat(one.scope), [declared(one.switch, "_d"), inner]), *functions_of(one)]
+    return [*sequences_for(cases), *struct_of(flat(one.scope), [declared(one.switch, "_d"), inner], one.has_forward),
+            *functions_of(one)]
 
 
 def enum(one: model.Enum) -> List[str]:
@@ -320,21 +334,32 @@ def const(one: model.Const) -> List[str]:
 
 def parameter(operation: model.Operation, name: str) -> str:
     """The name of a parameter, or of the result, whose name is empty."""
-    types = [type for _, type in operation.arguments + operation.results]
-    return identifier(name, *types) or "_result"
+    name = identifier(name)
+    while name in OUTER:
+        name = f"_c_{name}"
+    return name or "_result"
 
 
 def parameters(operation: model.Operation) -> List[str]:
     """The arguments as a servant is given them."""
+    if operation.is_octets:
+        return ["const lr_idl_body *_body"]
     return [given(type, parameter(operation, name)) for name, type in operation.arguments]
 
 
 def stub_head(one: model.Interface, operation: model.Operation) -> str:
     found = [f"{flat(one.scope)} _object"]
+    if operation.is_octets:
+        found += ["const lr_idl_body *_body", *([] if operation.is_oneway else ["lr_idl_body *_result"])]
     for how, name, type in operation.parameters:
         found.append((given if how == "in" else taken)(type, parameter(operation, name)))
     found += [taken(operation.result, "_result")] if operation.result is not None else []
     return f"int64_t {stub_of(one, operation)}({', '.join([*found, 'lr_idl_raised *_raised'])})"
+
+
+def has_body(operation: model.Operation) -> bool:
+    """Whether the results are octets."""
+    return operation.is_octets and not operation.is_oneway
 
 
 def results(operation: model.Operation) -> List[Tuple[str, object]]:
@@ -344,6 +369,7 @@ def results(operation: model.Operation) -> List[Tuple[str, object]]:
 
 def answer_head(one: model.Interface, operation: model.Operation) -> str:
     found = ["const lr_idl_call *_call", *(given(type, name) for name, type in results(operation))]
+    found += ["const lr_idl_body *_result"] if has_body(operation) else []
     return f"int64_t {stub_of(one, operation)}__answer({', '.join(found)})"
 
 
@@ -369,7 +395,7 @@ def interface(one: model.Interface) -> List[str]:
         for operation in base.operations:
             lines += [f"#define {stub_of(one, operation)}{end} {stub_of(base, operation)}{end}"
                       for end in ("", "__answer", "__operation")]
-    offer = f"lr_idl_offer _offer = {{_key, _key_size, &{name}__interface, _servant}}"
+    offer = f"lr_idl_offer _offer = {{_key, _key_size, &{name}__interface, _servant, 0}}"
     return [*lines, "", *servant_struct(one), "/* A servant under a key, for lr_idl_add and lr_idl_perform. */",
             *function(f"lr_idl_offer {poa(one)}__offer(const {poa(one)} *_servant, const void *_key, size_t _key_size)",
                       f"{offer};\n  return _offer")]
@@ -427,11 +453,19 @@ def types_of(types: Types, is_raw: bool) -> List[str]:
     return wrapped(f"    {{{len(types)}, {listed}, {codes([] if is_raw else types)}}},")
 
 
+def types_of_octets(is_there: bool) -> List[str]:
+    types = "1, (const lr_idl_type *const[]){&lr_idl_body__type}" if is_there else "0, NULL"
+    return [f"    {{{types}, NULL, 0}},"]
+
+
 def operation_description(name: str, operation: model.Operation) -> List[str]:
     is_raw = model.is_raw(operation)
     raised = ", ".join(f"&{flat(one.scope)}__exception" for one in operation.raises)
     raises = f"(const lr_idl_exception *const[]){{{raised}}}" if raised else "NULL"
     flags = f"{str(is_raw).lower()}, {str(operation.is_oneway).lower()}"
+    if operation.is_octets:
+        return [f'const lr_idl_operation {name}__operation = {{', f'    "{operation.name}", {flags},',
+                *types_of_octets(True), *types_of_octets(has_body(operation)), "    0, NULL};"]
     return [f'const lr_idl_operation {name}__operation = {{', f'    "{operation.name}", {flags},',
             *types_of(operation.arguments, is_raw), *types_of(operation.results, is_raw),
             *wrapped(f"    {len(operation.raises)}, {raises}}};")]
@@ -447,14 +481,16 @@ def stub(one: model.Interface, operation: model.Operation) -> List[str]:
     outs = {parameter(operation, inner) for inner, _ in operation.outs}
     ins = [inner if inner in outs else pointed(type, inner)
            for inner, type in ((parameter(operation, name), type) for name, type in operation.arguments)]
+    ins, out = (["_body"], ["_result"] * has_body(operation)) if operation.is_octets else (
+        ins, [inner for inner, _ in results(operation)])
     lines, arguments = pointers("const void *const", "_in", ins)
-    more, places = pointers("void *const", "_out", [inner for inner, _ in results(operation)])
+    more, places = pointers("void *const", "_out", out)
     return [*wrapped(stub_head(one, operation) + " {"), *lines, *more,
             f"  return lr_idl_invoke(&_object, &{name}__operation, {arguments}, {places}, _raised);", "}", ""]
 
 
 def answer(one: model.Interface, operation: model.Operation) -> List[str]:
-    values = [pointed(type, name) for name, type in results(operation)]
+    values = ["_result"] if has_body(operation) else [pointed(type, name) for name, type in results(operation)]
     lines, places = pointers("const void *const", "_out", values)
     return [*wrapped(answer_head(one, operation) + " {"), *lines,
             f"  return lr_idl_answer(_call, &{stub_of(one, operation)}__operation, {places});", "}", ""]
@@ -471,7 +507,8 @@ def performer(one: model.Interface, operation: model.Operation) -> List[str]:
     """How a servant's function is called."""
     method, words = method_of(one, operation), ["_own->self", "_call"]
     words += [argument(type, index) for index, (_, type) in enumerate(operation.arguments)]
-    unused = [] if operation.arguments else ["  (void)_in;"]
+    words += ["(const lr_idl_body *)_in[0]"] if operation.is_octets else []
+    unused = [] if operation.arguments or operation.is_octets else ["  (void)_in;"]
     head = f"static int64_t {poa(one)}__perform_{operation.name}"
     return [*wrapped(f"{head}(const void *_servant, const lr_idl_call *_call, void *const *_in) {{"), *unused,
             f"  const {poa(one)} *_own = (const {poa(one)} *)_servant;",
@@ -498,7 +535,7 @@ def interface_description(one: model.Interface) -> List[str]:
 
 # ---- the files ----
 
-DECLARING = {model.Const: const, model.Alias: alias, model.Enum: enum, model.Struct: struct,
+DECLARING = {model.Forward: forward, model.Const: const, model.Alias: alias, model.Enum: enum, model.Struct: struct,
              model.Exceptional: exception, model.Union: union, model.Interface: interface}
 DESCRIBING = {model.Enum: enum_description, model.Struct: struct_description, model.Exceptional: exception_description,
               model.Union: union_description, model.Interface: interface_description}
@@ -521,9 +558,9 @@ def header_name(base: str) -> str:
 
 def header(unit: model.Unit) -> str:
     guard = header_name(unit.base).upper().replace(".", "_")
-    others = dict.fromkeys(model.base_of(one.file) for one in unit.declarations if not one.is_here)
     lines = [HEAD.format(file=os.path.basename(unit.file)), f"#ifndef {guard}", f"#define {guard}", "",
-             '#include "lemonrudder_idl.h"', *(f'#include "{header_name(other)}"' for other in others), "",
+             '#include "lemonrudder_idl.h"', *(f'#include "{header_name(other)}"' for other in unit.used_files), "",
+             model.IS_VERSION, "",
              "#ifdef __cplusplus", 'extern "C" {', "#endif", ""]
     for one in unit.here:
         lines += [f"/* ---- {one.idl} ---- */", *DECLARING[type(one)](one), ""]
@@ -540,9 +577,11 @@ def source(unit: model.Unit) -> str:
 
 def files_of(unit: model.Unit) -> Dict[str, str]:
     names = model.Names("C")
-    for one in unit.declarations:
+    for one in unit.whole:
         for name in names_of(one):
             names.take(name, one)
+    OUTER.clear()
+    OUTER.update(names.taken)
     made = header_name(unit.base)
     found = {made: header(unit), made[:-1] + "c": source(unit)}
     for name in RUNTIME:

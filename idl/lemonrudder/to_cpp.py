@@ -8,6 +8,7 @@ import re
 from typing import Dict, List, Tuple
 
 from . import model
+from .macros import MACROS
 
 KEYWORDS = set("""alignas alignof and and_eq asm auto bitand bitor bool break case catch char char16_t char32_t char8_t
 class co_await co_return co_yield compl concept const const_cast consteval constexpr constinit continue decltype default
@@ -26,11 +27,16 @@ HEAD = """/* Made of {file} by omniidl -blemonrudder -Wbcpp. Not to be changed b
 #define {guard}
 
 #include "lemonrudder_idl.hpp"
+{includes}
+{version}
 """
+# what would hide the namespaces that what is made stands on
+NAMESPACES = {"std", "lemonrudder"}
 
 
 def identifier(name: str) -> str:
-    return f"_cxx_{name}" if name in KEYWORDS else name
+    is_taken = name in KEYWORDS or name in NAMESPACES or name in MACROS or re.fullmatch(r"LR_\w+|LEMONRUDDER_\w*", name)
+    return f"_cxx_{name}" if is_taken else name
 
 
 def path(scope: Tuple[str, ...]) -> str:
@@ -113,15 +119,17 @@ def members_of(one: model.Declared) -> List[str]:
     name, fields = identifier(one.name), [(identifier(member), type) for member, type in one.members]
     lines = [f"{value(type)} {member}{{}};" for member, type in fields]
     if fields and isinstance(one, model.Struct):
-        same = " && ".join(f"one.{member} == two.{member}" for member, _ in fields)
-        lines += ["", f"friend bool operator==(const {name}& one, const {name}& two) {{", f"  return {same};", "}"]
-    for verb, head in (("read", f"{LR}Reader& in, {name}& value"),
-                       ("write", f"{LR}GrowingWriter& out, const {name}& value")):
+        same = " && ".join(f"_one.{member} == _two.{member}" for member, _ in fields)
+        lines += ["", f"friend bool operator==(const {name}& _one, const {name}& _two) {{", f"  return {same};", "}"]
+    for verb, head in (("read", f"{LR}Reader& _in, {name}& _one"),
+                       ("write", f"{LR}GrowingWriter& _out, const {name}& _one")):
         if not fields:
             head = re.sub(r" \w+(,|$)", r"\1", head)
         lines += ["", f"static {LR}Done _{verb}({head}) {{"]
         for index, (member, type) in enumerate(fields):
-            call = f"{codec(type)}::{verb}({'in' if verb == 'read' else 'out'}, value.{member})"
+            call = f"{codec(type)}::{verb}({'_in' if verb == 'read' else '_out'}, _one.{member})"
+            if verb == "write":
+                call = f'_out.within("{one.members[index][0]}", {call})'
             lines.append(f"  {LR}Done done = {call};" if index == 0 else f"  if (done) done = {call};")
         lines += ["  return done;" if fields else "  return {};", "}"]
     return lines
@@ -168,19 +176,19 @@ def union(one: model.Union, unit: model.Unit) -> List[str]:
                   f"void {member}({held} value) {{",
                   f"  _label = {literal(model.first_value(one, case), one.switch)};",
                   f"  _value.emplace<{number}>(std::move(value));", "}"]
-    lines += ["", f"friend bool operator==(const {name}& one, const {name}& two) {{",
-              "  return one._label == two._label && one._value == two._value;", "}", "",
-              f"static {LR}Done _read({LR}Reader& in, {name}& value) {{", f"  {switch} label{{}};",
-              f"  {LR}Done done = {codec(one.switch)}::read(in, label);", "  if (!done) return done;",
-              "  value._d(label);", "  switch (value._value.index()) {"]
-    lines += [f"    case {number}: done = {codec(case.type)}::read(in, *std::get_if<{number}>(&value._value)); break;"
+    lines += ["", f"friend bool operator==(const {name}& _one, const {name}& _two) {{",
+              "  return _one._label == _two._label && _one._value == _two._value;", "}", "",
+              f"static {LR}Done _read({LR}Reader& _in, {name}& _one) {{", f"  {switch} label{{}};",
+              f"  {LR}Done done = {codec(one.switch)}::read(_in, label);", "  if (!done) return done;",
+              "  _one._d(label);", "  switch (_one._value.index()) {"]
+    lines += [f"    case {number}: done = {codec(case.type)}::read(_in, *std::get_if<{number}>(&_one._value)); break;"
               for number, case in enumerate(one.cases, 1)]
     lines += ["    default: break;", "  }", "  return done;", "}", "",
-              f"static {LR}Done _write({LR}GrowingWriter& out, const {name}& value) {{",
-              f"  const {LR}Done done = {codec(one.switch)}::write(out, value._label);", "  if (!done) return done;",
-              "  switch (value._value.index()) {"]
-    lines += [f"    case {number}: return {codec(case.type)}::write(out, *std::get_if<{number}>(&value._value));"
-              for number, case in enumerate(one.cases, 1)]
+              f"static {LR}Done _write({LR}GrowingWriter& _out, const {name}& _one) {{",
+              f"  const {LR}Done done = {codec(one.switch)}::write(_out, _one._label);", "  if (!done) return done;",
+              "  switch (_one._value.index()) {"]
+    lines += [f'    case {number}: return _out.within("{case.name}", {codec(case.type)}::write(_out, '
+              f"*std::get_if<{number}>(&_one._value)));" for number, case in enumerate(one.cases, 1)]
     types = ", ".join(["std::monostate", *(value(case.type) for case in one.cases)])
     lines += ["    default: return done;", "  }", "}"]
     hidden = [*index_of(one), "", f"{switch} _label{{}};", f"std::variant<{types}> _value;"]
@@ -214,12 +222,14 @@ def traits(operation: model.Operation) -> List[str]:
             f"  using _raises = {IDL}Raises<{raises}>;",
             f"  using _outcome = {outcome};",
             f"  static constexpr std::array<std::uint8_t, {len(codes)}> _types{{{', '.join(codes)}}};",
+            f"  static constexpr std::array<const char*, {len(operation.arguments)}> _parameters{{"
+            f"{', '.join(model.quoted(name) for name, _ in operation.arguments)}}};",
             f"  static _outcome _result(_results::Values values) {{ return {{{held}::of(std::move(values))}}; }}", "};"]
 
 
 def method_of(operation: model.Operation) -> str:
-    """The method for an operation: of an attribute its name."""
-    return identifier(operation.attribute or operation.name)
+    """The method for an operation: of an attribute its name, but where it has no types."""
+    return identifier(operation.name if operation.is_octets else operation.attribute or operation.name)
 
 
 def parameters(operation: model.Operation) -> List[str]:
@@ -230,17 +240,27 @@ def stub(one: model.Interface, unit: model.Unit) -> List[str]:
     name = identifier(one.name)
     lines = [f'static constexpr const char* _id = "{one.id}";', *inner_of(one, unit), "struct _ops {"]
     for operation in one.operations:
-        lines += indented(traits(operation))
-    bases = "".join(f", {path(base.scope)}(caller)" for base in one.bases)
-    keyed = "".join(f", {path(base.scope)}(caller, key)" for base in one.bases)
+        lines += indented(traits(operation)) if not operation.is_octets else []
+    # (all bases are virtual)
+    bases = "".join(f", {path(base.scope)}(caller)" for base in one.constructed)
+    keyed = "".join(f", {path(base.scope)}(caller, key)" for base in one.constructed)
     lines += ["};", "", f"explicit {name}({IDL}Caller& caller) : {IDL}Stub(caller){bases} {{}}",
               f"{name}({IDL}Caller& caller, {LR}Octets key) : {IDL}Stub(caller, key){keyed} {{}}"]
     for operation in one.operations:
+        if operation.is_octets:
+            lines += stub_of_octets(operation)
+            continue
         ops, names = f"_ops::{identifier(operation.name)}", [identifier(inner) for inner, _ in operation.arguments]
         lines += [f"{ops}::_outcome {method_of(operation)}({', '.join(parameters(operation))}) const {{",
                   f"  return _call<{ops}>({', '.join(names)});", "}"]
     heads = ", ".join(f"public virtual {path(base.scope)}" for base in one.bases) or f"public virtual {IDL}Stub"
     return [f"class {name} : {heads} {{", " public:", *indented(lines), "};", ""]
+
+
+def stub_of_octets(operation: model.Operation) -> List[str]:
+    """The method for an operation without types."""
+    return [f"{LR}Result<{IDL}Reply> {method_of(operation)}(const {LR}GrowingWriter& body) const {{",
+            f'  return _call_octets("{operation.name}", {str(operation.is_oneway).lower()}, body);', "}"]
 
 
 def poa(scope: Tuple[str, ...]) -> str:
@@ -253,21 +273,42 @@ def servant(one: model.Interface) -> List[str]:
     name = poa(one.scope).rpartition("::")[2]
     lines: List[str] = []
     for operation in one.operations:
-        asking = f"{IDL}Asking<{path(one.scope)}::_ops::{identifier(operation.name)}>& call"
+        asked = f"{IDL}Asking<{path(one.scope)}::_ops::{identifier(operation.name)}>"
+        asking = f"{LR}Asked& _call" if operation.is_octets else f"{asked}& _call"
         lines.append(f"virtual {LR}Done {method_of(operation)}({', '.join([asking, *parameters(operation)])}) = 0;")
     ids = ", ".join(f"{path(each.scope)}::_id" for each in (one, *one.all_bases))
-    lines += ["", "/* Puts it on offer under a key, before the loop is opened. */",
-              f"{LR}Done _offer({LR}Loop& loop, {LR}Octets key) {{", f"  {LR}Done done = loop.object(key, {{{ids}}});"]
-    for interface in (*reversed(one.all_bases), one):
-        for operation in interface.operations:
-            lines += indented(offered(interface, operation))
+    lines += ["", "/* Puts it on offer under a key, also while the loop serves; loop.remove(key) takes it away. */",
+              f"{LR}Done _offer({LR}Loop& loop, {LR}Octets key) {{", f"  {LR}Done done = loop.object(key, {{{ids}}});",
+              f"  return done ? _offer_operations(loop, key, {IDL}always(this)) : done;", "}",
+              "/* Puts those on offer whose keys begin so, before the loop is opened: the servant of a key, or null where",
+              " * there is no such object. */", f"static {LR}Done _offer_family({LR}Loop& loop, {LR}Octets prefix,",
+              f"    std::function<{name}*({LR}Octets)> servant_of) {{", f"  {LR}Done done = loop.family(prefix, {{{ids}}},",
+              f"      [servant_of]({LR}Octets key) {{ return servant_of(key) != nullptr; }});",
+              "  return done ? _offer_operations(loop, prefix, servant_of) : done;", "}", "", "protected:",
+              *offering("_offer_own", name)]
+    for operation in one.operations:
+        lines += indented(offered(one, operation, name))
+    lines += ["  return done;", "}", "", "private:", *offering("_offer_operations", name)]
+    lines += [f"  if (done) done = {poa(base.scope)}::_offer_own(loop, key, servant_of);" for base in one.constructed]
+    lines += ["  if (done) done = _offer_own(loop, key, servant_of);", "  return done;", "}"]
     heads = ", ".join(f"public virtual {poa(base.scope)}" for base in one.bases) or f"public virtual {IDL}Servant"
-    return [f"class {name} : {heads} {{", " public:", *indented(lines + ["  return done;", "}"]), "};", ""]
+    return [f"class {name} : {heads} {{", " public:", *indented(lines), "};", ""]
 
 
-def offered(interface: model.Interface, operation: model.Operation) -> List[str]:
-    """The lines that put an operation on offer."""
+def offering(function: str, name: str) -> List[str]:
+    """The head of a function that puts operations of a servant on offer."""
+    return [f"static {LR}Done {function}([[maybe_unused]] {LR}Loop& loop, [[maybe_unused]] {LR}Octets key,",
+            f"    [[maybe_unused]] const std::function<{name}*({LR}Octets)>& servant_of) {{", f"  {LR}Done done;"]
+
+
+def offered(interface: model.Interface, operation: model.Operation, name: str) -> List[str]:
+    """The lines that put an operation of a servant of this name on offer."""
     lines = []
+    if operation.is_octets:
+        return [f'if (done) done = loop.raw_operation(key, "{operation.name}", [servant_of]({LR}Asked& call) {{',
+                "  auto* const servant = servant_of(call.key());",
+                f"  return servant != nullptr ? servant->{method_of(operation)}(call)",
+                f"                            : call.refuse({LR}SystemException::object_not_exist);", "});"]
     if not model.is_raw(operation):
         for raised in operation.raises:
             codes = ", ".join(model.codes_of(raised.members))
@@ -277,8 +318,8 @@ def offered(interface: model.Interface, operation: model.Operation) -> List[str]
     call = "raw_operation" if model.is_raw(operation) else "operation"
     ops = f"{path(interface.scope)}::_ops::{identifier(operation.name)}"
     return [*lines, "if (done)", f'  done = loop.{call}(key, "{operation.name}"{types},',
-            f"      {IDL}performer<{ops}>([this](auto& call, const auto&... one) {{",
-            f"        return this->{method_of(operation)}(call, one...);", "      }));"]
+            f"      {IDL}performer<{ops}, {name}>(servant_of, [](auto& servant, auto& call, const auto&... one) {{",
+            f"        return servant.{method_of(operation)}(call, one...);", "      }));"]
 
 
 def body_of(one: model.Declared, unit: model.Unit, is_inner: bool) -> List[str]:
@@ -293,6 +334,8 @@ def body_of(one: model.Declared, unit: model.Unit, is_inner: bool) -> List[str]:
         return union(one, unit)
     if isinstance(one, model.Interface):
         return stub(one, unit)
+    if isinstance(one, model.Forward):
+        return [f"{'struct' if isinstance(one.of, model.Struct) else 'class'} {identifier(one.name)};", ""]
     return struct(one, unit)
 
 
@@ -305,14 +348,27 @@ def within(scope: Tuple[str, ...], prefix: str, lines: List[str]) -> List[str]:
     return [f"namespace {opened} {{", "", *lines, f"}}  // namespace {opened}", ""]
 
 
+def check(unit: model.Unit) -> None:
+    """Raises Refused where two names of the file would be one."""
+    names = model.Names("C++")
+    for one in unit.whole:
+        names.take(path(one.scope), one)
+        if isinstance(one, model.Interface):
+            names.take(poa(one.scope), one)
+
+
+def header_name(base: str) -> str:
+    return re.sub(r"\W", "_", base) + "_idl.hpp"
+
+
 def files_of(unit: model.Unit) -> Dict[str, str]:
-    base = re.sub(r"\W", "_", unit.base)
-    guard = f"{base.upper()}_IDL_HPP"
-    lines = [HEAD.format(file=os.path.basename(unit.file), guard=guard)]
-    others = dict.fromkeys(model.base_of(one.file) for one in unit.declarations if not one.is_here)
-    lines += [*(f'#include "{re.sub(chr(92) + "W", "_", other)}_idl.hpp"' for other in others), ""]
-    holders = {one.scope for one in unit.declarations if isinstance(one, (model.Interface, model.Struct, model.Union))}
-    holders |= {one.scope for one in unit.declarations if isinstance(one, model.Exceptional)}
+    check(unit)
+    made = header_name(unit.base)
+    guard = made.upper().replace(".", "_")
+    includes = "".join(f'#include "{header_name(other)}"\n' for other in unit.used_files)
+    lines = [HEAD.format(file=os.path.basename(unit.file), guard=guard, includes=includes, version=model.IS_VERSION)]
+    types = (model.Interface, model.Struct, model.Union, model.Exceptional)
+    holders = {one.scope for one in unit.declarations if isinstance(one, types)}
     for one in unit.here:
         if one.scope[:-1] in holders:
             continue
@@ -320,4 +376,4 @@ def files_of(unit: model.Unit) -> Dict[str, str]:
         if isinstance(one, model.Interface):
             lines += within(one.scope[:-1], "POA_", servant(one))
     with open(os.path.join(os.path.dirname(__file__), "lemonrudder_idl.hpp"), encoding="ascii") as file:
-        return {f"{base}_idl.hpp": "\n".join([*lines, f"#endif  // {guard}", ""]), "lemonrudder_idl.hpp": file.read()}
+        return {made: "\n".join([*lines, f"#endif  // {guard}", ""]), "lemonrudder_idl.hpp": file.read()}

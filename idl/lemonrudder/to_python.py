@@ -22,9 +22,14 @@ import dataclasses as _dataclasses
 import typing as _typing
 
 from lemonrudder import idl as _idl
+
+_idl.made_for({version})
 '''
-# what each exception of Python has
+# what each exception of Python has, each class, and each number
 EXCEPTIONS = ("args", "add_note", "with_traceback")
+CLASSES = ("mro",)
+NUMBERS = ("as_integer_ratio", "bit_count", "bit_length", "conjugate", "denominator", "from_bytes", "imag", "is_integer",
+           "name", "numerator", "real", "to_bytes", "value", *CLASSES)
 IGNORED = "  # type: ignore[no-any-return]"
 PACKAGE = '"""Made by omniidl -blemonrudder -Wbpython. Not to be changed by hand."""\n'
 
@@ -40,7 +45,11 @@ def flat(scope: Tuple[str, ...]) -> str:
 
 
 def member(name: str) -> str:
-    return identifier(name, "self", *EXCEPTIONS)
+    return identifier(name, "self", *EXCEPTIONS, *CLASSES)
+
+
+def enumerator(name: str) -> str:
+    return identifier(name, *NUMBERS)
 
 
 def hint(type: object) -> str:
@@ -84,7 +93,7 @@ def value_of(value: object, type: object) -> str:
     """A value of a constant or a label."""
     if isinstance(value, tuple):
         made = model.resolved(type)
-        return f"{flat(made.scope)}.{identifier(value[-1], 'mro')}"
+        return f"{flat(made.scope)}.{enumerator(value[-1])}"
     if model.resolved(type) == model.Basic("boolean"):
         return str(bool(value))
     return repr(value)
@@ -111,24 +120,36 @@ def const(one: model.Const) -> List[str]:
 
 
 def alias(one: model.Alias) -> List[str]:
-    name = flat(one.scope)
-    return [f"{name} = {hint(one.type)}", f"_t_{name} = {type_of(one.type)}"]
+    """A name for a type. (One that is not whole yet is named by a text.)"""
+    name, named = flat(one.scope), hint(one.type)
+    for other in model.named_in(one.type):
+        if other.has_forward and other is not one.type:
+            named = re.sub(rf"\b{flat(other.scope)}\b", f'"{flat(other.scope)}"', named)
+    return [f"{name} = {named}", f"_t_{name} = {type_of(one.type)}"]
+
+
+def forward(one: model.Forward) -> List[str]:
+    return [f"_t_{flat(one.scope)} = _idl.recursive()"]
+
+
+def type_made(one: model.Declared, words: str) -> str:
+    """The line that begins the type of a struct or a union, which others may name already."""
+    return f"_t_{flat(one.scope)}{'.of' if one.has_forward else ''} = _idl.{words}("
 
 
 def enum(one: model.Enum) -> List[str]:
     name, prefix = flat(one.scope), one.scope[:-1]
-    items = [identifier(item, "mro") for item in one.names]
+    items = [enumerator(item) for item in one.names]
     lines = [f"class {name}(_idl.Enum):", f'    """{one.idl}"""', ""]
     lines += [f"    {item} = {number}" for number, item in enumerate(items)]
     lines += ["", "", f"_t_{name} = _idl.enumeration({name})"]
     # (an enumerator stands in the scope around its enum)
-    return lines + [f"{flat((*prefix, item))} = {name}.{identifier(item, 'mro')}" for item in one.names]
+    return lines + [f"{flat((*prefix, item))} = {name}.{enumerator(item)}" for item in one.names]
 
 
 def struct(one: model.Struct) -> List[str]:
-    name = flat(one.scope)
     return [*class_of(one, "_idl.Struct", one.members, False), "", "",
-            f"_t_{name} = _idl.structure(", *structure(one), ")"]
+            type_made(one, "structure"), *structure(one), ")"]
 
 
 def exception(one: model.Exceptional) -> List[str]:
@@ -141,7 +162,7 @@ def union(one: model.Union) -> List[str]:
     name = flat(one.scope)
     lines = [f"class {name}(_idl.Union):", f'    """{one.idl}"""', ""]
     lines += [f"    {member(case.name)}: {hint(case.type)}" for case in one.cases]
-    lines += ["", "", f"_t_{name} = _idl.union(", f"    {name}, {type_of(one.switch)},"]
+    lines += ["", "", type_made(one, "union"), f"    {name}, {type_of(one.switch)},"]
     for case in one.cases:
         labels = ["None" if label is None else value_of(label, one.switch) for label in case.labels]
         one_label = "," if len(labels) == 1 else ""
@@ -154,12 +175,17 @@ def method_of(operation: model.Operation) -> str:
 
 
 def result_hint(operation: model.Operation) -> str:
+    if operation.is_octets:
+        return "None" if operation.is_oneway else "_idl.Body"
     hints = [hint(type) for _, type in operation.results]
     return "None" if not hints else hints[0] if len(hints) == 1 else f"_typing.Tuple[{', '.join(hints)}]"
 
 
 def operation_of(operation: model.Operation) -> str:
     """The expression for an operation."""
+    if operation.is_octets:
+        oneway = ", True" if operation.is_oneway else ""
+        return f'_idl.OfOctets("{operation.name}", "{method_of(operation)}"{oneway})'
     parts = [f'"{operation.name}"', f'"{method_of(operation)}"', named(operation.arguments), named(operation.results)]
     raises = [flat(one.scope) for one in operation.raises]
     if raises or operation.is_oneway:
@@ -170,6 +196,8 @@ def operation_of(operation: model.Operation) -> str:
 
 
 def parameters(operation: model.Operation) -> str:
+    if operation.is_octets:
+        return ", body: _typing.Union[_idl.Body, _builtins.bytes]"
     return "".join(f", {member(name)}: {hint(type)}" for name, type in operation.arguments)
 
 
@@ -181,7 +209,7 @@ def document(operation: model.Operation) -> str:
 def inner_of(one: model.Interface, unit: model.Unit) -> List[str]:
     """What stands in the scope of an interface, as members of its class."""
     lines = []
-    for other in unit.declarations:
+    for other in unit.whole:
         if other.scope[:-1] == one.scope:
             lines.append(f"    {identifier(other.name)} = {flat(other.scope)}")
             if isinstance(other, model.Enum):
@@ -192,26 +220,28 @@ def inner_of(one: model.Interface, unit: model.Unit) -> List[str]:
 def interface(one: model.Interface, unit: model.Unit) -> List[str]:
     """The descriptor of an interface, its stub, and its servant."""
     name = flat(one.scope)
-    bases = [flat(base.scope) for base in one.bases]
+    bases = [flat(base.scope) for base in one.own_bases]
     listed = ", ".join(f"_i_{base}" for base in bases) + ("," if len(bases) == 1 else "")
     lines = [f'_i_{name} = _idl.Interface("{one.id}", ({listed}), (']
     lines += [f"    {operation_of(operation)}," for operation in one.operations]
     lines += ["))", "", "", f"class {name}({', '.join(bases) or '_idl.Stub'}):",
               f'    """Calls an object of {one.idl}."""', "", f"    _interface = _i_{name}", *inner_of(one, unit)]
     for operation in one.operations:
-        values = "".join(f", {member(inner)}" for inner, _ in operation.arguments)
+        values = ", body" if operation.is_octets else "".join(f", {member(inner)}" for inner, _ in operation.arguments)
         lines += ["", f"    async def {method_of(operation)}(self{parameters(operation)}) -> {result_hint(operation)}:"]
         lines += [text for text in [document(operation)] if text]
         back = "" if result_hint(operation) == "None" else "return "
         found = f'self._interface.operations["{operation.name}"]'
-        lines.append(f"        {back}await self._call({found}{values})" + (IGNORED if back else ""))
+        call = "_call_octets" if operation.is_octets else "_call"
+        lines.append(f"        {back}await self.{call}({found}{values})" + (IGNORED if back else ""))
     lines += ["", "", f"class _POA_{name}({', '.join(f'_POA_{base}' for base in bases) or '_idl.Servant'}):",
               f'    """A servant of {one.idl}, whose methods are plain or async."""', "", f"    _interface = _i_{name}"]
     for operation in one.operations:
-        returns = result_hint(operation)
+        returns = "_idl.RawReply" if result_hint(operation) == "_idl.Body" else result_hint(operation)
         either = f"_typing.Union[{returns}, _typing.Awaitable[{returns}]]"
         lines += ["", "    @_abc.abstractmethod"]
-        lines.append(f"    def {method_of(operation)}(self{parameters(operation)}) -> {either}:")
+        given = ", body: _idl.Body" if operation.is_octets else parameters(operation)
+        lines.append(f"    def {method_of(operation)}(self{given}) -> {either}:")
         lines.append(document(operation) or "        ...")
     return lines
 
@@ -221,7 +251,7 @@ def body_of(one: model.Declared, unit: model.Unit) -> List[str]:
     if isinstance(one, model.Interface):
         return interface(one, unit)
     makers = {model.Const: const, model.Alias: alias, model.Enum: enum, model.Struct: struct,
-              model.Exceptional: exception, model.Union: union}
+              model.Exceptional: exception, model.Union: union, model.Forward: forward}
     return makers[type(one)](one)
 
 
@@ -236,15 +266,14 @@ def names_of(one: model.Declared) -> List[Tuple[Tuple[str, ...], str]]:
 def imports_of(unit: model.Unit) -> List[str]:
     """The lines that import what stands in files that are included."""
     files: Dict[str, List[str]] = {}
-    for one in unit.declarations:
-        if not one.is_here:
-            name = flat(one.scope)
-            found = files.setdefault(model.base_of(one.file), [])
-            found += [flat_name for _, flat_name in names_of(one)]
-            if isinstance(one, model.Interface):
-                found += [f"_i_{name}", f"_POA_{name}"]
-            elif not isinstance(one, (model.Const, model.Exceptional)):
-                found.append(f"_t_{name}")
+    for one in unit.used:
+        name = flat(one.scope)
+        found = files.setdefault(model.base_of(one.file), [])
+        found.append(name)
+        if isinstance(one, model.Interface):
+            found += [f"_i_{name}", f"_POA_{name}"]
+        elif not isinstance(one, model.Exceptional):
+            found.append(f"_t_{name}")
     lines = []
     for file, names in files.items():
         lines += [f"from {module_name(file)} import (", *(f"    {name}," for name in names), ")"]
@@ -259,12 +288,13 @@ def module_name(base: str) -> str:
 def module_of(unit: model.Unit) -> str:
     """FILE_idl.py."""
     names = model.Names("Python")
-    lines = [HEAD.format(file=os.path.basename(unit.file)).rstrip(), *imports_of(unit)]
+    head = HEAD.format(file=os.path.basename(unit.file), version=", ".join(map(str, model.VERSION))).rstrip()
+    lines = [head[:head.rindex("\n\n")], *imports_of(unit), head[head.rindex("\n\n") + 1:]]
     for one in unit.declarations:
-        for _, name in names_of(one):
+        for _, name in names_of(one) if not isinstance(one, model.Forward) else ():
             names.take(name, one)
         if one.is_here:
-            spaced = not isinstance(one, (model.Const, model.Alias))
+            spaced = not isinstance(one, (model.Const, model.Alias, model.Forward))
             lines += ["", "", *body_of(one, unit)] if spaced else ["", *body_of(one, unit)]
     return re.sub(r"\n\n\n\n+", "\n\n\n", "\n".join(lines) + "\n")
 
@@ -285,8 +315,11 @@ def package(name: str, module: str, lines: List[str]) -> Tuple[str, str]:
         if not text.startswith(PACKAGE):
             raise model.Refused([f"{path}: it is there, and was not made by omniidl -blemonrudder"])
         mine = f"from {module} import "
-        before = [line for line in text[len(PACKAGE):].splitlines() if line and not line.startswith(mine)]
-    return path, PACKAGE + "\n".join(dict.fromkeys(before + lines)) + "\n"
+        before = [line for line in text.splitlines() if line.startswith("from ") and not line.startswith(mine)]
+    lines = list(dict.fromkeys(before + lines))
+    # (its last word is the name in the package)
+    names = dict.fromkeys(line.split()[-1] for line in lines)
+    return path, "\n".join([PACKAGE + "\n".join(lines), "", "__all__ = [", *(f'    "{name}",' for name in names), "]", ""])
 
 
 def packages_of(unit: model.Unit) -> Dict[str, str]:
@@ -296,7 +329,7 @@ def packages_of(unit: model.Unit) -> Dict[str, str]:
     interfaces = {one.scope for one in unit.declarations if isinstance(one, model.Interface)}
     for one in unit.here:
         scope = one.scope[:-1]
-        if scope in interfaces:
+        if scope in interfaces or isinstance(one, model.Forward):
             continue
         for names, name in names_of(one):
             lines.setdefault(package_of(scope, False), []).append(

@@ -11,7 +11,7 @@ import subprocess
 from typing import Dict, List, Tuple
 
 from . import model
-from .rust_names import camel, check, marker_of, method_of, module, raised_names, servant_name, snake, upper
+from .rust_names import camel, check, marker_of, method_of, module, raised_names, servant_name, snake, upper, words
 
 VALUES = {"boolean": "bool", "char": "char", "octet": "u8", "short": "i16", "ushort": "u16", "long": "i32",
           "ulong": "u32", "longlong": "i64", "ulonglong": "u64", "float": "f32", "double": "f64"}
@@ -37,6 +37,7 @@ pub use {made}::*;
     clippy::module_inception,
     clippy::new_ret_no_self,
     clippy::result_large_err,
+    clippy::self_named_constructors,
     clippy::should_implement_trait,
     clippy::too_many_arguments,
     clippy::type_complexity,
@@ -77,7 +78,8 @@ class At:
 
 
 def file_module(file: str) -> str:
-    name = re.sub(r"\W", "_", model.base_of(file))
+    """The module for a file, as modules are named."""
+    name = "_".join(words(re.sub(r"\W", "_", model.base_of(file)))).lower()
     return f"{'_' if name[:1].isdigit() else ''}{name}_idl"
 
 
@@ -221,7 +223,8 @@ def record(one: model.Declared, at: At) -> List[str]:
     """A struct or an exception."""
     name, fields = camel(one.name), [(snake(member), type) for member, type in one.members]
     read = [f"{field}: _idl::read::<{codec(type, at)}>(reader)?," for field, type in fields]
-    write = [f"_idl::write::<{codec(type, at)}>(writer, &value.{field})?;" for field, type in fields]
+    write = [f"_idl::write_in::<{codec(type, at)}>(writer, {quoted(member)}, &value.{field})?;"
+             for (field, type), (member, _) in zip(fields, one.members)]
     return [f"/// `{one.idl}`", DERIVES,
             *block(f"pub struct {name} {{", [f"pub {field}: {value(type, at)}," for field, type in fields]), "",
             *codec_impl(name, [f"Ok({name} {{", *indented(read), "})"], [*write, "Ok(())"])]
@@ -307,7 +310,8 @@ def is_other(one: model.Union, variant: Variant, patterns: List[str]) -> str:
 def write_arm(one: model.Union, variant: Variant, patterns: List[str], at: At) -> List[str]:
     """How a variant is written."""
     lines, put = [], f"_idl::write::<{codec(one.switch, at)}>(writer, "
-    held = "" if variant.case is None else f"_idl::write::<{codec(variant.case.type, at)}>(writer, value)"
+    held = "" if variant.case is None else (
+        f"_idl::write_in::<{codec(variant.case.type, at)}>(writer, {quoted(variant.case.name)}, value)")
     if variant.count == 1 and variant.case is not None:
         label = literal(model.first_value(one, variant.case), one.switch, at)
         return block(f"Self::{variant.name}(value) => {{", [f"{put}&{label})?;", held])
@@ -411,13 +415,36 @@ def operation_impl(operation: model.Operation, at: At) -> List[str]:
                match_raised(operation, "_raised", "_idl::write::<TYPE>(_writer, _raised)", at))])
 
 
+def type_of_octets(operation: model.Operation) -> List[str]:
+    """The type that stands for an operation without types: its values are bodies of exceptions."""
+    name, body, done = marker_of(operation), "_idl::Body", "_idl::Result<(), _Error> {"
+    return [f"/// `{operation.name}`, by octets, and the body of an exception that it raises, which begins with its id.",
+            DERIVES, f"pub struct {name}(pub {body});", "", *block(f"impl _idl::Operation for {name} {{", [
+                f"const NAME: &'static str = {quoted(operation.name)};",
+                "const SIGNATURE: _idl::Option<_lr::Signature<'static>> = None;",
+                f"const IS_ONEWAY: bool = {str(operation.is_oneway).lower()};",
+                f"type Arguments = ({body},);", f"type Results = {body};", "",
+                *block(f"fn read_arguments(_reader: &mut _Reader<'_>) -> _idl::Result<({body},), _Error> {{",
+                       [f"Ok(({body}::take(_reader),))"]), "",
+                *block(f"fn read_results(_reader: &mut _Reader<'_>) -> _idl::Result<{body}, _Error> {{",
+                       [f"Ok({body}::take(_reader))"]), "",
+                *block(f"fn write_results(_writer: &mut _Writer, _results: &{body}) -> {done}",
+                       ["_results.put(_writer)"]), "",
+                *block("fn read_raised(_id: &[u8], _reader: &mut _Reader<'_>) "
+                       "-> _idl::Result<_idl::Option<Self>, _Error> {", [f"Ok(Some(Self({body}::take(_reader))))"]), "",
+                *block("fn id(&self) -> &str {", ["self.0.id()"]), "",
+                *block(f"fn write_members(&self, _writer: &mut _Writer) -> {done}", ["self.0.put(_writer)"])]), ""]
+
+
 def operation_type(operation: model.Operation, at: At) -> List[str]:
     """The type that stands for an operation: its values are the exceptions that it raises."""
+    if operation.is_octets:
+        return type_of_octets(operation)
     name, raised = marker_of(operation), list(zip(raised_names(operation), operation.raises))
     mut = "mut " if operation.arguments else ""
-    write = [f"_idl::write::<{codec(type, at)}>(&mut _writer, {'&' if is_plain(type) else ''}{snake(inner)})?;"
-             for inner, type in operation.arguments]
-    head = f"pub fn arguments({', '.join(arguments_of(operation, at))}) -> _idl::Result<_Writer, _Error> {{"
+    write = [f"_idl::argument::<{codec(type, at)}>(&mut _writer, {quoted(operation.name)}, {quoted(inner)}, "
+             f"{'&' if is_plain(type) else ''}{snake(inner)})?;" for inner, type in operation.arguments]
+    head = f"pub fn arguments({', '.join(arguments_of(operation, at))}) -> _idl::Result<_Writer, _idl::Refused> {{"
     lines = [f"/// `{operation.name}`, and the exceptions that it raises.", DERIVES,
              *block(f"pub enum {name} {{", [f"{variant}({at.type(one)})," for variant, one in raised]), "",
              *block(f"impl {name} {{", [
@@ -438,10 +465,27 @@ def operations(one: model.Interface, at: At) -> List[str]:
     return ["/// The operations.", *block("pub mod ops {", [*USES, *lines]), ""]
 
 
+def stub_of_octets(operation: model.Operation, ops: str) -> List[str]:
+    """The method for an operation without types."""
+    return [f"/// `{operation.name}`, by octets", "///", "/// # Errors", "///", "/// Each `Failure`.",
+            *block(f"pub fn {method_of(operation)}(&mut self, body: &::lemonrudder::cdr::Writer) "
+                   f"-> _idl::Result<_idl::Body, _idl::Failure<{ops}>> {{", ["self._object.call(body)"]), ""]
+
+
+def constructor_of(one: model.Interface) -> str:
+    """What makes the stub of an object: `new`, or `new_` where an operation has that name."""
+    taken = {method_of(operation) for _, operation in all_operations(one)}
+    return "new_" if "new" in taken else "new"
+
+
 def stub(one: model.Interface, at: At) -> List[str]:
-    name, methods = camel(one.name), []
+    name = camel(one.name)
+    methods: List[str] = []
     for interface, operation in all_operations(one):
         ops = at.path(interface, module(interface.name), "ops", marker_of(operation))
+        if operation.is_octets:
+            methods += stub_of_octets(operation, ops)
+            continue
         results = tuple_of([value(type, at) for _, type in operation.results], True)
         head = ", ".join(["&mut self", *arguments_of(operation, at)])
         given = ", ".join(snake(inner) for inner, _ in operation.arguments)
@@ -450,6 +494,10 @@ def stub(one: model.Interface, at: At) -> List[str]:
                            [f"self._object.call(&{ops}::arguments({given})?)"]), ""]
     return [f"/// `{one.idl}`, as a client calls it.", "#[derive(Clone, Debug)]",
             *block(f"pub struct {name}<_C> {{", ["_object: _idl::Object<_C>,"]), "",
+            *block(f"impl<_C> {name}<_C> {{", [
+                "/// The stub of an object, whose interface is not looked at.", "#[must_use]",
+                *block(f"pub const fn {constructor_of(one)}(object: _idl::Object<_C>) -> Self {{",
+                       ["Self { _object: object }"])]), "",
             *block(f"impl<_C: _idl::Calls> {name}<_C> {{", methods[:-1]), "",
             *block(f"impl<_C> ::core::convert::From<_idl::Object<_C>> for {name}<_C> {{",
                    block("fn from(object: _idl::Object<_C>) -> Self {", ["Self { _object: object }"])), "",
@@ -467,6 +515,7 @@ def servant(one: model.Interface, at: At) -> List[str]:
         call = "_call" if "call" in names else "call"
         asking = f"{call}: _idl::Asking<'_, '_, {at.path(one, module(one.name), 'ops', marker_of(operation))}>"
         given = [f"{name}: {value(type, at)}" for name, (_, type) in zip(names, operation.arguments)]
+        given += ["body: _idl::Body"] if operation.is_octets else []
         methods += [f"/// `{operation.name}`", "///", "/// # Errors", "///", "/// What ends the serving.",
                     f"fn {method_of(operation)}({', '.join(['&mut self', asking, *given])}) "
                     "-> _idl::Result<(), _Error>;", ""]
@@ -488,7 +537,7 @@ def offered(one: model.Interface, at: At) -> List[str]:
     ids = ", ".join(quoted(each.id) for each in (one, *one.all_bases))
     arms = []
     for interface, operation, ops in known:
-        names = [snake(name) for name, _ in operation.arguments]
+        names = ["_body"] if operation.is_octets else [snake(name) for name, _ in operation.arguments]
         method = f"{at.path(interface, servant_name(interface))}::{method_of(operation)}"
         arms += block(f'b"{operation.name}" => _idl::perform::<{ops}>(request, |_call, {tuple_of(names)}| {{',
                       [f"{method}({', '.join(['_servant', '_call', *names])})"])
@@ -542,6 +591,8 @@ def scopes_of(unit: model.Unit) -> Scope:
     """All modules of a file, in that which has no name."""
     root = Scope()
     for one in unit.here:
+        if isinstance(one, model.Forward):
+            continue
         here, at = root.at(one.scope[:-1]), At(*map(module, one.scope[:-1]))
         if not isinstance(one, model.Interface):
             here.lines += MAKERS[type(one)](one, at)

@@ -46,6 +46,8 @@ def lines_of(one: model.Declared) -> List[str]:
         return []
     found = [f"interface {one.id}", *(f"base {base.id}" for base in one.bases)]
     for operation in one.operations:
+        if operation.is_octets or model.is_nested(operation):
+            continue
         found.append(f"operation {operation.name}")
         found += ["oneway"] if operation.is_oneway else []
         found += [f"in {name} {words(type)}" for name, type in operation.arguments]
@@ -54,9 +56,20 @@ def lines_of(one: model.Declared) -> List[str]:
     return found
 
 
+def warn_of(one: model.Declared) -> None:
+    """Says which operations are left out: the table has no types that hold themselves."""
+    for operation in getattr(one, "operations", ()):
+        if not operation.is_octets and model.is_nested(operation):
+            model.warn(f"{one.file}:{operation.line}: Warning: {one.idl}::{operation.name}: types that hold themselves:"
+                       " the table leaves it out")
+
+
 def files_of(unit: model.Unit) -> dict:
     """FILE.types, which has what is included too."""
     lines = ["giop-types 1", f"# of {unit.base}.idl"]
-    for one in unit.declarations:
-        lines += lines_of(one)
+    left_out = [one for one in unit.whole if any(map(model.holds_itself, model.all_named([one])))
+                and not isinstance(one, model.Interface)]
+    for one in unit.whole:
+        warn_of(one)
+        lines += lines_of(one) if one not in left_out else []
     return {f"{unit.base}.types": "\n".join(lines) + "\n"}

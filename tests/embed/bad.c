@@ -379,6 +379,7 @@ static void limits_are_refused(void) {
   SETS(lr_server_set, &server, LR_SET_PARTIALS, partials);
   for (uint32_t what = LR_SET_CAPACITY; what <= LR_SET_JOINED; what++) SETS(lr_server_set, &server, what, counts);
   for (uint32_t what = LR_SET_DUE; what <= LR_SET_CLIENT_ID; what++) WANT(lr_server_set(&server, what, 1000), LR_OK);
+  WANT(lr_server_set(&server, LR_SET_DUE, 0), LR_E_RANGE);
   SETS(lr_server_set, &server, LR_SET_ASK_FIRST, truths);
   WANT(lr_server_set(&server, 0, 1), LR_E_RANGE);
   WANT(lr_server_set(&server, LR_SET_ASK_FIRST + 1, 1), LR_E_RANGE);
@@ -1090,6 +1091,8 @@ static void messages_are_refused(void) {
   WANT(lr_write_locate_reply(room, sizeof room, 2, 2, 7, 1), LR_E_RANGE);
   WANT(lr_write_locate_reply(room, sizeof room, 2, LR_ORDER_BIG, 7, 6), LR_E_RANGE);
   WANT(lr_write_locate_reply(room, sizeof room, 0, LR_ORDER_BIG, 7, 3), LR_E_RANGE);
+  for (uint32_t status = LR_LOCATE_OBJECT_FORWARD; status <= LR_LOCATE_NEEDS_ADDRESSING_MODE; status++)
+    WANT(lr_write_locate_reply(room, sizeof room, 2, LR_ORDER_BIG, 7, status), LR_E_RANGE);
   WANT(lr_write_locate_reply(room, 19, 2, LR_ORDER_BIG, 7, 1), LR_E_ROOM);
   WANT(lr_write_locate_reply(room, 20, 2, LR_ORDER_BIG, 7, 1), 20);
   CHECK(memcmp(room, "GIOP\1\2\0\4\0\0\0\10\0\0\0\7\0\0\0\1", 20) == 0);

@@ -27,7 +27,7 @@ sys.path.insert(0, os.path.join(ROOT, "bindings", "python"))
 
 import lemonrudder as lr  # noqa: E402
 
-EXAMPLES = os.path.join(ROOT, "examples")
+EXAMPLES, EMBED = os.path.join(ROOT, "examples"), os.path.join(ROOT, "tests", "embed")
 LANGUAGES = ("c", "cpp", "rs", "py")
 KEY, OVERDRAWN = b"bank", "IDL:Bank/Overdrawn:1.0"
 # how long a call, or what is waited for, may take on a busy machine
@@ -119,14 +119,37 @@ def made(language: str, is_postgres: bool) -> str:
     return os.path.join(folder, "bank")
 
 
-def made_of_rust(folder: str) -> str:
-    """The bank in Rust, over the crates that Debian packages."""
+def made_of_rust(folder: str, change: Callable[[str], None] = lambda there: None) -> str:
+    """The bank in Rust, over the crates that Debian packages; its copy is changed first."""
     for name in ("tokio", "rusqlite"):
         if not glob.glob(os.path.join(rust_test.REGISTRY, f"{name}-[0-9]*")):
             raise unittest.SkipTest(f"{NEEDS}librust-{name}-dev")
     tool("cargo")
-    program = rust_test.package("durable", folder, os.path.join(library(), "lib"), *rust_test.OF_REGISTRY)
+    program = rust_test.package("durable", folder, os.path.join(library(), "lib"), *rust_test.OF_REGISTRY,
+                                change=change)
     return shutil.copy(program, os.path.join(folder, "bank"))
+
+
+@functools.lru_cache(maxsize=None)
+def losing(language: str) -> str:
+    """The bank in C, C++ or Rust over a SQLite file, by a store that loses the answer to a COMMIT."""
+    folder = tempfile.mkdtemp(prefix="durable-")
+    flags = flags_of("sqlite3", "libsqlite3-dev")
+    if language == "rs":
+        def model(there: str) -> None:
+            os.rename(os.path.join(there, "src", "store.rs"), os.path.join(there, "src", "kept.rs"))
+            shutil.copy(os.path.join(EMBED, "lost.rs"), os.path.join(there, "src", "store.rs"))
+        return made_of_rust(folder, model)
+    lib, sqlite = library(), os.path.join(EXAMPLES, "bank_sqlite.c")
+    compiled(folder, f"-I{lib}/include", *flags, "-Dbank_sqlite=bank_real", "-c", sqlite)
+    sources = [os.path.join(EMBED, "lost.c")]
+    sources += [os.path.join(EXAMPLES, name) for name in ("loop.c", "bank_durable.c")[:2 if language == "c" else 0]]
+    compiled(folder, f"-I{lib}/include", f"-I{EXAMPLES}", *flags, "-c", *sources)
+    objects = sorted(glob.glob(os.path.join(folder, "*.o")))
+    main = [] if language == "c" else [os.path.join(EXAMPLES, "bank_durable.cpp")]
+    compiled(folder, *main, *objects, f"-I{lib}/include", f"{lib}/lib/liblemonrudder.a", *flags, "-pthread", "-o", "bank",
+             compiler=(tool("g++"), "-std=c++17"))
+    return os.path.join(folder, "bank")
 
 
 @functools.lru_cache(maxsize=None)
@@ -142,10 +165,12 @@ def python_with(module: str) -> str:
 class Bank:
     """A bank in a language, of `LANGUAGES`, over a store: at a port of its own, in one life after another."""
 
-    def __init__(self, language: str, store: str) -> None:
+    def __init__(self, language: str, store: str, program: str = "") -> None:
         self.language, self.store, self.port = language, store, free_port()
         is_postgres = store.startswith("postgres")
-        if language == "py":
+        if program:
+            self.program = program
+        elif language == "py":
             self.python = python_with("asyncpg" if is_postgres else "sqlite3")
         else:
             self.program = made(language, is_postgres)

@@ -204,6 +204,22 @@ async def declined(bank: Bank, name: str, line: str) -> None:
     assert len(said) == 1 and line in said[0], said
 
 
+class InDoubt(unittest.TestCase):
+    """What was committed is taken out before the store is asked again whether it was."""
+
+    @base.each(lambda: [it for it in LANGUAGES if it[1] != "py"])
+    def test_over_by_then(self, language):
+        """It may have acted: BAD_CONTEXT, COMPLETED_MAYBE."""
+        with contextlib.contextmanager(folders)() as folder, \
+                Bank(language, f"{folder}/bank.db", durable.losing(language)) as bank:
+            bank.begin()
+            soon = lr.now() + 1200 * 10**7
+            self.assertEqual(asyncio.run(answer_of(bank, "client", 1, "deposit", 7, soon)),
+                             ("BAD_CONTEXT", lr.Completed.MAYBE))
+            self.assertEqual(asyncio.run(balance_of(bank.port, "client")), 7)
+            self.assertEqual(asyncio.run(answer_of(bank, "client", 2, "deposit", 7, ENDLESS)), 14)
+
+
 class OverSqlite(unittest.TestCase):
     """Over a SQLite file."""
 

@@ -15,6 +15,8 @@ import lemonrudder as lr
 SECONDS = 30
 # a status and a body that a server answers, or None: it has the bank perform what is asked, and is gone before it answers
 Step = Optional[Tuple[int, bytes]]
+# .. and it says nothing
+MUTE = (-1, b"")
 TRANSIENT = (lr.ReplyStatus.SYSTEM_EXCEPTION, lr.pack("sLL", "IDL:omg.org/CORBA/TRANSIENT:1.0", 0, 1))
 HOST = "127.0.0.1"
 ALTERNATE = 3
@@ -71,6 +73,12 @@ class Bank:
         self.performed.append((call.client_id, call.retention_id))
         return amount * len(self.performed)
 
+    def total(self) -> int:
+        """Performs another operation."""
+        call = lr.current()
+        self.performed.append((call.client_id, call.retention_id))
+        return 0
+
     async def perform(self, octets: bytes) -> None:
         """Performs what is asked, whose reply nobody gets."""
         reader, writer = await asyncio.open_connection(HOST, self.port)
@@ -88,6 +96,8 @@ class Bank:
                 for message in assembler.feed(octets):
                     self.asked.append((message.ft.client, message.ft.retention_id))
                     step = left.pop(0) if len(left) > 1 else left[0]
+                    if step is MUTE:
+                        continue
                     if step is None:
                         await self.perform(octets)
                         listener.close()

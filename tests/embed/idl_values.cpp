@@ -18,19 +18,29 @@ static lr::Error read(const std::vector<std::uint8_t>& octets) {
   return T::_read(in, value).error();
 }
 
+// Whether a call failed by an error, and says why.
+template <class Outcome>
+static bool failed(const Outcome& outcome, std::int64_t error, const std::string& why) {
+  if (outcome.why() != why) std::printf("it says: %s\n", outcome.why().c_str());
+  return outcome.error() == error && outcome.why() == why;
+}
+
 // Nothing listens at this port: an answer that comes at once says that nothing was to be sent.
 static void arguments() {
   auto caller = *lr::idl::Caller::open("127.0.0.1", 1);
   const Shapes::Desk desk(caller, "desk");
   Shapes::Held held;
   held.some = {"a", "b", "c", "d"};
-  WANT(desk.keep(held).error() == LR_E_RANGE);
-  held.some = {"abcde"};
-  WANT(desk.keep(held).error() == LR_E_RANGE);
+  WANT(failed(desk.keep(held), LR_E_RANGE, "keep: what: some: a sequence of 4, and the bound is 3"));
+  held.some = {"a", "abcde"};
+  WANT(failed(desk.keep(held), LR_E_RANGE, "keep: what: some: [1]: a string of 5, and the bound is 4"));
   held.some = {"abcd"};
   held.its_colour = static_cast<Shapes::Colour>(3);
-  WANT(desk.keep(held).error() == LR_E_RANGE);
-  WANT(desk.tell(std::string("a\0b", 3)).error() == LR_E_TEXT);
+  WANT(failed(desk.keep(held), LR_E_RANGE, "keep: what: its_colour: 3 is no name of the enum"));
+  WANT(failed(desk.tell(std::string("a\0b", 3)), LR_E_TEXT, "tell: what: a NUL in a string"));
+  Shapes::Mark mark;
+  mark.text(std::string("a\0b", 3));
+  WANT(failed(desk.draw(mark), LR_E_TEXT, "draw: what: text: a NUL in a string"));
   caller.patience(std::chrono::milliseconds(50));
   const auto told = desk.tell("a");
   WANT(told.system() != nullptr && told.system()->id == "IDL:omg.org/CORBA/TRANSIENT:1.0");

@@ -6,10 +6,13 @@ mod odd_idl;
 mod shapes_idl;
 
 use lemonrudder::cdr::{Reader, Writer};
-use lemonrudder::idl::{self, Asking, Calls, Codec, Failure, Object, Operation, Parked, Reference};
+use lemonrudder::idl::{
+    self, Asking, Calls, Codec, Failure, Object, Operation, Parked, Reference, Refused,
+};
 use lemonrudder::*;
 use shapes_idl::shapes::desk::{self, ops, Inner};
 use shapes_idl::shapes::{self, r#class, Any, Colour, Full, Held, Lost, Mark, Never, Point};
+use std::fmt::Debug;
 use std::time::Duration;
 
 type Desk = shapes::Desk<Wire>;
@@ -177,7 +180,7 @@ impl Calls for Wire {
 }
 
 fn new_desk() -> Desk {
-    Desk::from(Object::new(Wire::open().expect("there is memory"), "desk"))
+    Desk::new(Object::new(Wire::open().expect("there is memory"), "desk"))
 }
 
 /// The servant of a desk.
@@ -242,15 +245,27 @@ fn exceptions() {
 
 /// Arguments that are none of their types: nothing is sent.
 fn no_arguments() {
+    fn refused<T: PartialEq + Debug, O: PartialEq + Debug>(
+        outcome: Result<T, Failure<O>>,
+        error: Error,
+        why: &str,
+    ) {
+        assert_eq!(outcome, Err(Failure::Refused(Refused { error, why: why.into() })));
+    }
     let mut desk = new_desk();
-    let four = vec!["".to_string(); 4];
-    assert_eq!(desk.keep(&Held { some: four, ..held() }), Err(Error::Range.into()));
-    let long = vec!["abcde".to_string()];
-    assert_eq!(desk.keep(&Held { some: long, ..held() }), Err(Error::Range.into()));
-    assert_eq!(desk.draw(&Mark::Text("€".into())), Err(Error::Range.into()));
-    assert_eq!(desk.draw(&Mark::NoMember(Colour::Red)), Err(Error::Range.into()));
-    assert_eq!(desk.tell("a\0b"), Err(Error::Text.into()));
-    assert_eq!(desk.real(0.5, '€', true, 1), Err(Error::Range.into()));
+    let four = Held { some: vec!["".to_string(); 4], ..held() };
+    let bound = "keep: what: some: a sequence of 4, and the bound is 3";
+    refused(desk.keep(&four), Error::Range, bound);
+    let long = Held { some: vec!["a".to_string(), "abcde".to_string()], ..held() };
+    let bound = "keep: what: some: [1]: a string of 5, and the bound is 4";
+    refused(desk.keep(&long), Error::Range, bound);
+    let wide = "draw: what: text: \"€\" has characters beyond ISO 8859-1";
+    refused(desk.draw(&Mark::Text("€".into())), Error::Range, wide);
+    let other = format!("draw: what: {}", Error::Range);
+    refused(desk.draw(&Mark::NoMember(Colour::Red)), Error::Range, &other);
+    refused(desk.tell("a\0b"), Error::Text, "tell: what: a NUL in the string \"a\\0b\"");
+    let wide = "real: two: '€' is no char: one character of ISO 8859-1";
+    refused(desk.real(0.5, '€', true, 1), Error::Range, wide);
     assert!(servant(&mut desk).heard.is_empty());
     assert!(desk.as_mut().calls().client.take_output().is_empty());
 }
@@ -307,7 +322,8 @@ fn arguments_of_a_peer() {
 
 /// What comes of a reply with this body.
 fn replied<O: Operation>(ended: Ended, body: &[u8]) -> Result<O::Results, Failure<O>> {
-    idl::outcome(&Completion { call: 1, ended, body, order: Order::Big, at: 0 })
+    let order = Order::Big;
+    idl::outcome(&Completion { call: 1, ended, body, order, at: 0, limit: None })
 }
 
 /// Results of a peer that are none of their types, or more than these, are an error.

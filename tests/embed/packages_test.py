@@ -17,6 +17,7 @@ import unittest
 
 from scripts import packages
 from tests import programs
+from tests.relay import relays
 from tests.embed.first_programs import PRINTED, SECONDS, STRICT, path, run
 
 LIB = f"usr/lib/{packages.TRIPLET}"
@@ -97,8 +98,19 @@ fn main() -> Result<(), Box<dyn std::error::Error>> {
 def made(number: int) -> str:
     """The folder of all packages, made for the so-many-th time."""
     folder = tempfile.mkdtemp(prefix=f"packages-{number}-")
-    packages.make(programs.library(), folder)
+    packages.make(programs.library(), folder, given(), is_unproved=True)
     return folder
+
+
+def given() -> dict[str, str]:
+    """The programs that are packed."""
+    made = {"giop": programs.path_of("GIOP"), "lemonrudder": relays.program()}
+    return {name: path for name, path in made.items() if os.path.exists(path)}
+
+
+def version() -> str:
+    """The version of the packages, which says so where the library is not proved."""
+    return packages.Made(programs.library(), {}).version
 
 
 def octets_of(name: str) -> bytes:
@@ -156,7 +168,7 @@ class Packages(unittest.TestCase):
         """What omniidl makes of the bank by some words, in a folder; the programs that stand on it are beside that."""
         made_in = os.path.join(self.folder, "made")
         os.makedirs(made_in, exist_ok=True)
-        for name in ("bank.idl", "loop.c", "loop.h", "idl/bank.c", "idl/bank.cpp", "idl/bank.py"):
+        for name in ("bank.idl", "loop.c", "loop.h", "loop_remove.h", "idl/bank.c", "idl/bank.cpp", "idl/bank.py"):
             shutil.copy(path(f"examples/{name}"), self.folder)
         run([*omniidl, "-blemonrudder", *(f"-Wb{one}" for one in languages), f"-C{made_in}", f"{self.folder}/bank.idl"],
             cwd=self.folder, env={**outside(), **environment})
@@ -214,7 +226,7 @@ class Packages(unittest.TestCase):
                     env={**os.environ, "PKG_CONFIG_PATH": f"{top}/lib/pkgconfig"}).split()
         run([programs.tool("gcc"), path("examples/first.c"), *flags, "-o", f"{self.folder}/found"])
         self.prints([f"{self.folder}/found"], LD_LIBRARY_PATH=f"{top}/lib")
-        for name in packages.programs():
+        for name in given():
             self.assertTrue(run([f"{top}/bin/{name}", "--version"]).startswith(name))
             self.assertTrue(os.path.exists(f"{top}/share/man/man1/{name}.1.gz"), name)
             self.assertTrue(os.path.exists(f"{top}/share/bash-completion/completions/{name}"), name)
@@ -247,7 +259,7 @@ class Packages(unittest.TestCase):
         shared = f"{root}/{LIB}/{packages.library.SONAME}"
         self.prints([sys.executable, shutil.copy(path("examples/first.py"), self.folder)],
                     PYTHONPATH=f"{root}/usr/lib/python3/dist-packages", LEMONRUDDER_LIBRARY=shared)
-        for name in packages.programs():
+        for name in given():
             self.assertTrue(run([f"{root}/usr/bin/{name}", "--version"]).startswith(name))
             for each in (f"man/man1/{name}.1.gz", f"bash-completion/completions/{name}"):
                 self.assertTrue(os.path.exists(f"{root}/usr/share/{each}"), each)

@@ -42,8 +42,8 @@ def cargo(target, lib, *words, cwd=CRATE, **environment):
     return ran.returncode, ran.stdout
 
 
-def package(example, target, lib, *words):
-    """Builds an example that is a package of its own, and answers the program."""
+def package(example, target, lib, *words, change=lambda folder: None):
+    """Builds an example that is a package of its own, whose copy is changed first, and answers the program."""
     packages = os.path.join(target, "packages")
     folder = os.path.join(packages, example)
     # (copies, since cargo writes beside a manifest which crates it took)
@@ -54,6 +54,7 @@ def package(example, target, lib, *words):
             text = file.read().replace('path = "../.."', f"path = {json.dumps(CRATE)}")
         with open(manifest, "w", encoding="utf-8") as file:
             file.write(text)
+    change(folder)
     with open(os.path.join(folder, "Cargo.toml"), encoding="utf-8") as file:
         text = file.read()
     status, said = cargo(target, lib, *words, "build", "--offline", cwd=folder)

@@ -34,14 +34,14 @@ LONG = ["-ORBgiopMaxMsgSize", "16777216"]
 
 @functools.lru_cache(maxsize=None)
 def program() -> str:
-    """The program `lemonrudder`: the one that LEMONRUDDER names, or one that is built in out/relay."""
+    """The program `lemonrudder`: the one that LEMONRUDDER names, or one that is built beside the library."""
     if os.environ.get("LEMONRUDDER"):
         return os.path.abspath(os.environ["LEMONRUDDER"])
     tool("cargo")
     lacking = relay.lacking()
     if lacking:
         raise unittest.SkipTest(NEEDS + ", ".join(lacking))
-    made = relay.build(os.path.join(library(), "lib"), is_release=False)
+    made = relay.build(os.path.join(library(), "lib"), relay.target_of(library()), is_release=False)
     if made is None:
         raise AssertionError("lemonrudder was not built")
     return made

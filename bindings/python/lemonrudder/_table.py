@@ -232,7 +232,7 @@ class ServerSetting(enum.IntEnum):
     JOINED = 7
     """who may wait for the outcome of a parked one, beside the last who came: 8"""
     DUE = 8
-    """octets due on a connection from which on it is fed no more: 1048576"""
+    """octets due on a connection, 1 or more, from which on it is fed no more: 1048576"""
     CLIENT_ID = 9
     """octets of a client's id at most; who has a longer one is answered BAD_CONTEXT: 256"""
     ASK_FIRST = 10

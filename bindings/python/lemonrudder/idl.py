@@ -15,6 +15,7 @@ import logging
 import operator
 import re
 import struct
+import threading
 from typing import (TYPE_CHECKING, Any, Callable, ClassVar, Dict, Iterable, Iterator, List, Mapping, Optional, Sequence,
                     Tuple, Type, TypeVar)
 from typing import Union as Either
@@ -23,16 +24,26 @@ from . import _outcomes
 from ._catalogue import Catalogue, Signature
 from ._cdr import BIG, Reader, Writer
 from ._client import Client
-from ._library import LemonrudderError, Text
-from ._messages import Body
+from ._library import LemonrudderError, Text, serves
+from ._messages import Body as Body
 from ._outcomes import Outcome, Refuse, SystemException
 from ._references import REFERENCE
 from ._references import Ior as Ior
-from ._servants import RawReply
+from ._servants import RawReply as RawReply
 from ._server import Server
-from ._table import Completed, Error, ReplyStatus, Wish
+from ._table import VERSION, Completed, Error, ReplyStatus, Wish
 
 LOG = logging.getLogger("lemonrudder")
+# how deep sequences may stand in sequences of what a raw operation has, and how deep those stand that are at work
+DEPTH = 64
+_NOW = threading.local()
+
+
+def made_for(*version: int) -> None:
+    """Whether this package serves what was made for a version of it. Raises ImportError."""
+    if not serves(VERSION, version):
+        found, wanted = (".".join(map(str, each)) for each in (VERSION, version))
+        raise ImportError(f"this is lemonrudder {found}, and none for {wanted}: make the module anew by omniidl")
 
 
 def _within(name: str, function: Callable[[Any], Any], value: Any) -> Any:
@@ -229,14 +240,15 @@ class sequence(IdlType):
     def read(self, reader: Reader) -> Any:
         if self.format is not None:
             return super().read(reader)
-        return _read_each(self.member, reader, _bounded_count(reader.read("L")[0], self.bound))
+        count = _bounded_count(reader.read("L")[0], self.bound)
+        return _deeper(lambda: _read_each(self.member, reader, count))
 
     def write(self, writer: Writer, value: Any) -> None:
         if self.format is not None:
             super().write(writer, value)
             return
         writer.write("L", len(self._listed(value)))
-        _write_each(self.member, writer, value)
+        _deeper(_write_each, self.member, writer, value)
 
 
 class array(IdlType):
@@ -269,6 +281,18 @@ class array(IdlType):
             super().write(writer, value)
             return
         _write_each(self.member, writer, self._listed(value))
+
+
+def _deeper(function: Callable[..., Any], *values: Any) -> Any:
+    """What a function answers of a sequence in others. Raises ValueError: it stands too deep."""
+    depth: int = getattr(_NOW, "depth", 0)
+    if depth == DEPTH:
+        raise ValueError(f"sequences in sequences, more than {DEPTH} deep")
+    _NOW.depth = depth + 1
+    try:
+        return function(*values)
+    finally:
+        _NOW.depth = depth
 
 
 def _holds(member: IdlType, value: Any, name: str) -> None:
@@ -316,6 +340,18 @@ def _write_each(member: IdlType, writer: Writer, values: Any) -> None:
         return
     for index, value in enumerate(values):
         _within(f"[{index}]", lambda one: member.write(writer, one), value)
+
+
+class recursive(IdlType):
+    """A struct or union that is named before it is whole, as one that holds itself: `of` is its type."""
+
+    of: IdlType
+
+    def read(self, reader: Reader) -> Any:
+        return self.of.read(reader)
+
+    def write(self, writer: Writer, value: Any) -> None:
+        self.of.write(writer, value)
 
 
 class reference(IdlType):
@@ -673,6 +709,27 @@ class Operation:
             raise LemonrudderError(Error.VALUE, f"the reply of {self.name}: {error}") from None
 
 
+class OfOctets(Operation):
+    """An operation with types that can't be made: its arguments and results are the octets of a Body."""
+
+    def __init__(self, name: str, method: str, is_oneway: bool = False) -> None:
+        super().__init__(name, method, is_oneway=is_oneway)
+        self.is_raw = True
+
+    def values(self, plain: Sequence[Any]) -> List[Any]:
+        return [plain[0]]
+
+    def reply(self, returned: Any) -> Any:
+        if returned is None and self.is_oneway:
+            return RawReply(b"")
+        if not isinstance(returned, (Outcome, RawReply)):
+            raise TypeError(f"{returned!r} is no RawReply")
+        return returned
+
+    def returned(self, body: Body) -> Any:
+        return body
+
+
 def _format(types: _Named) -> str:
     return "".join(str(type.format) for _, type in types)
 
@@ -821,6 +878,16 @@ class Stub:
 
     async def __aexit__(self, *error: Any) -> None:
         await self._close()
+
+    async def _call_octets(self, operation: Operation, body: Either[Body, bytes]) -> Any:
+        """Calls an operation by the octets of its arguments, and returns those of its results."""
+        given = body if isinstance(body, Body) else Body(body)
+        if given.at % 8:
+            raise ValueError(f"{operation.name}: a body that begins at {given.at}, and is to at a multiple of 8")
+        wish = Wish.NONE if operation.is_oneway else Wish.FULL
+        came = await self._client.call_raw(self._key, operation.name, given.octets, order=given.order, wish=wish,
+                                           timeout=self._timeout, expiration=self._expiration)
+        return None if operation.is_oneway else came
 
     async def _call(self, operation: Operation, *values: Any) -> Any:
         """Calls an operation by its arguments, and returns its results as a method does."""

@@ -3,8 +3,11 @@
 use crate::error::{self, done};
 use crate::sys::{self, lr_place};
 use crate::{Error, Order};
+use alloc::format;
+use alloc::string::String;
 use alloc::vec::Vec;
 use core::ffi::c_void;
+use core::fmt;
 
 /// The index of the next octet.
 fn index(place: &lr_place) -> usize {
@@ -27,6 +30,15 @@ fn index(place: &lr_place) -> usize {
 pub struct Reader<'a> {
     octets: &'a [u8],
     place: lr_place,
+    /// How deep in others the sequences stand that are read.
+    pub(crate) depth: u8,
+    /// How much memory may be taken yet for what is read.
+    left: usize,
+}
+
+/// How much memory may be taken for what is read of so many octets, where nothing is said.
+fn usual_limit(size: usize) -> usize {
+    size.saturating_mul(16).saturating_add(65_536)
 }
 
 macro_rules! readers {
@@ -57,7 +69,34 @@ impl<'a> Reader<'a> {
     #[must_use]
     pub fn at(octets: &'a [u8], order: Order, place: u64) -> Reader<'a> {
         let place = lr_place { at: place, order: order.number(), ..lr_place::default() };
-        Reader { octets, place }
+        Reader { octets, place, left: usual_limit(octets.len()), depth: 0 }
+    }
+
+    /// Such a reader, of which it may be said how much memory may be taken.
+    pub(crate) fn limited(
+        octets: &'a [u8],
+        order: Order,
+        place: u64,
+        limit: Option<usize>,
+    ) -> Reader<'a> {
+        let reader = Reader::at(octets, order, place);
+        Reader { left: limit.unwrap_or(reader.left), ..reader }
+    }
+
+    /// Says how much memory may be taken for what is read, as by [`idl::read`](crate::idl::read), in
+    /// octets: in a new one 65536, and 16 times as many as it has octets.
+    pub fn limit(&mut self, octets: usize) {
+        self.left = octets;
+    }
+
+    /// Takes so much of it.
+    ///
+    /// # Errors
+    ///
+    /// `Value`, where so much is not left.
+    pub fn claim(&mut self, octets: usize) -> Result<(), Error> {
+        self.left = self.left.checked_sub(octets).ok_or(Error::Value)?;
+        Ok(())
     }
 
     readers! {
@@ -175,7 +214,7 @@ impl<'a> Reader<'a> {
         };
         done(answer)?;
         let octets = self.part(start, length)?;
-        Ok(Reader { octets, place })
+        Ok(Reader { octets, place, left: usual_limit(octets.len()), depth: self.depth })
     }
 
     /// A part of the octets, which the library named.
@@ -183,6 +222,12 @@ impl<'a> Reader<'a> {
         let (start, length) = (error::size(start)?, error::size(length)?);
         let after = self.octets.get(start..).ok_or(Error::Short)?;
         after.get(..length).ok_or(Error::Short)
+    }
+
+    /// All the octets, and the place of the first one; none are left.
+    pub(crate) fn all(&mut self) -> (&'a [u8], u64) {
+        self.place.next = self.octets.len() as u64;
+        (self.octets, self.place.at)
     }
 
     /// The octets that are left.
@@ -214,6 +259,10 @@ impl<'a> Reader<'a> {
 pub struct Writer {
     octets: Vec<u8>,
     place: lr_place,
+    /// How deep in others the sequences stand that are written.
+    pub(crate) depth: u8,
+    /// Why a value is not written.
+    why: String,
 }
 
 macro_rules! writers {
@@ -238,7 +287,30 @@ impl Writer {
     #[must_use]
     pub const fn new(order: Order) -> Writer {
         let place = lr_place { at: 0, next: 0, order: order.number(), reserved: 0 };
-        Writer { octets: Vec::new(), place }
+        Writer { octets: Vec::new(), place, why: String::new(), depth: 0 }
+    }
+
+    /// Why the value was refused that was to be written last, as by [`idl::write`](crate::idl::write),
+    /// in a line.
+    #[must_use]
+    pub fn why(&self) -> &str {
+        &self.why
+    }
+
+    /// Notes why a value is refused, and gives the error.
+    pub(crate) fn refuse(&mut self, error: Error, why: String) -> Error {
+        self.why = why;
+        error
+    }
+
+    /// Notes in what a value stands that was refused, and gives the error.
+    pub(crate) fn within(&mut self, name: impl fmt::Display, error: Error) -> Error {
+        let why = core::mem::take(&mut self.why);
+        self.why = match why.as_str() {
+            "" => format!("{name}: {error}"),
+            why => format!("{name}: {why}"),
+        };
+        error
     }
 
     /// Writes what is in an encapsulation, beginning with its octet of the byte order. It goes into

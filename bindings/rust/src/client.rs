@@ -70,6 +70,7 @@ pub struct Client {
     slot: lr_slot,
     /// The body of the completion taken last; a buffer that is used again.
     body: Vec<u8>,
+    values_limit: Option<usize>,
 }
 
 impl Client {
@@ -83,7 +84,7 @@ impl Client {
         let (mut slot, id) = (lr_slot::empty(), id.as_ref());
         // SAFETY: the id is lent.
         done(unsafe { sys::lr_client_open(&mut slot, id.as_ptr().cast(), id.len()) })?;
-        Ok(Client { slot, body: Vec::new() })
+        Ok(Client { slot, body: Vec::new(), values_limit: None })
     }
 
     /// Sets the version of its messages. This and the limits are set while it is not connected, and
@@ -104,6 +105,11 @@ impl Client {
     pub fn set_limits(&mut self, limits: Limits) -> Result<(), Error> {
         self.set(sys::LR_CLIENT_MESSAGE, limits.message)?;
         self.set(sys::LR_CLIENT_PARTIALS, limits.partials)
+    }
+
+    /// Says how much memory may be taken for what is read of a reply, as [`Reader::limit`] does.
+    pub fn set_values_limit(&mut self, octets: usize) {
+        self.values_limit = Some(octets);
     }
 
     fn set(&mut self, what: u32, number: u32) -> Result<(), Error> {
@@ -423,6 +429,7 @@ impl Client {
             body: &self.body,
             order: Order::of(said.body_order)?,
             at: said.body_at,
+            limit: self.values_limit,
         })
     }
 
@@ -452,6 +459,9 @@ pub struct Completion<'c> {
     pub order: Order,
     /// The place of the body's first octet, from which it is aligned.
     pub at: u64,
+    /// How much memory may be taken for what is read of it; none: what [`Reader::limit`] says of a
+    /// new one.
+    pub limit: Option<usize>,
 }
 
 /// A system exception (CORBA 3.3 Part 1, 8.4).
@@ -469,7 +479,7 @@ impl<'c> Completion<'c> {
     /// Reads the body.
     #[must_use]
     pub fn reader(&self) -> Reader<'c> {
-        Reader::at(self.body, self.order, self.at)
+        Reader::limited(self.body, self.order, self.at, self.limit)
     }
 
     /// The exception that it raised, if it raised one: its repository id, and a reader of its

@@ -5,6 +5,7 @@
 //! A stub calls by whatever is a [`Calls`], as a [`Caller`] is, which waits for each call on a
 //! socket. Over sockets of your own, [`call`] and [`outcome`] are its two halves.
 
+mod body;
 #[cfg(feature = "std")]
 mod caller;
 mod codec;
@@ -14,11 +15,12 @@ mod reference;
 mod road;
 mod servant;
 
+pub use body::Body;
 #[cfg(feature = "std")]
 pub use caller::Caller;
 pub use codec::{
-    read, write, Array, Boolean, Char, Codec, Double, Float, Long, LongLong, Octet, Octets,
-    Sequence, Short, Text, Typed, ULong, ULongLong, UShort,
+    argument, read, write, write_in, Array, Boolean, Char, Codec, Double, Float, Long, LongLong,
+    Octet, Octets, Refused, Sequence, Short, Text, Typed, ULong, ULongLong, UShort,
 };
 pub use object::{call, outcome, Calls, Failure, Object, SystemRaised};
 pub use reference::Reference;
@@ -90,7 +92,7 @@ pub trait Operation: Debug + Sized {
     fn read_raised(id: &[u8], reader: &mut Reader<'_>) -> Result<Option<Self>, Error>;
 
     /// The repository id of the exception.
-    fn id(&self) -> &'static str;
+    fn id(&self) -> &str;
 
     /// Writes its members.
     ///

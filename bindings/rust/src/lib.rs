@@ -26,6 +26,7 @@ extern crate std;
 mod assembler;
 mod catalogue;
 pub mod cdr;
+mod changes;
 mod client;
 mod contexts;
 mod error;

@@ -1,6 +1,7 @@
 //! A server of requests that may be sent again.
 
 use crate::cdr::{Reader, Writer};
+use crate::changes::Changes;
 use crate::contexts::Contexts;
 use crate::error::{self, copied, count, done, sure};
 use crate::sys::{self, lr_request, lr_slot};
@@ -8,6 +9,7 @@ use crate::{
     Catalogue, Completed, Counted, Error, Moment, Order, Part, Status, SystemName, Version, Why,
     Wish,
 };
+use alloc::boxed::Box;
 use alloc::vec::Vec;
 use core::mem::size_of;
 
@@ -151,6 +153,9 @@ pub struct Server {
     pub(crate) slot: lr_slot,
     /// The parts of the request that waits, by their numbers; buffers that are used again.
     parts: [Vec<u8>; 4],
+    is_asking_first: bool,
+    values_limit: Option<usize>,
+    pub(crate) changes: Changes,
 }
 
 impl Server {
@@ -166,7 +171,14 @@ impl Server {
         for (what, number) in &settings.limits {
             done(sys::lr_server_set(&mut slot, *what, *number))?;
         }
-        Ok(Server { slot, parts: Default::default() })
+        let is_asking_first = settings.limits.contains(&(sys::LR_SET_ASK_FIRST, 1));
+        let (parts, changes) = Default::default();
+        Ok(Server { slot, parts, is_asking_first, values_limit: None, changes })
+    }
+
+    /// Says how much memory may be taken for what is read of a request, as [`Reader::limit`] does.
+    pub fn set_values_limit(&mut self, octets: usize) {
+        self.values_limit = Some(octets);
     }
 
     /// Opens a connection, whose number is greater than each before.
@@ -244,10 +256,14 @@ impl Server {
     ///
     /// `Memory`.
     pub fn asked(&mut self) -> Result<Option<Request<'_>>, Error> {
-        let Some(said) = self.waiting() else {
+        let Some(mut said) = self.waiting() else {
             return Ok(None);
         };
         self.copy(said.ticket, Part::Key, said.key_size)?;
+        if self.is_leaving(&self.parts[sys::LR_PART_KEY as usize]) {
+            (said.is_refused, said.is_raw) = (1, 1);
+            said.refusal = SystemName::ObjectNotExist as u32;
+        }
         self.copy(said.ticket, Part::Operation, said.operation_size)?;
         self.copy(said.ticket, Part::Body, said.body_size)?;
         if said.has_client != 0 {
@@ -318,7 +334,7 @@ impl Server {
                 }
                 continue; // (up to a repeat of a parked request, or until enough is due)
             };
-            match self.identify(Ticket(said.ticket)) {
+            match self.identify_or_refuse(&said) {
                 Ok(true) => {}
                 Ok(false) => self.perform(&mut perform)?,
                 Err(error) => {
@@ -327,6 +343,19 @@ impl Server {
                 }
             }
         }
+    }
+
+    /// Answers the request that waits where no servant does: of an object that leaves, or of what
+    /// each object has.
+    fn identify_or_refuse(&mut self, said: &lr_request) -> Result<bool, Error> {
+        let ticket = Ticket(said.ticket);
+        if !self.leaves(ticket)? {
+            return self.identify(ticket);
+        }
+        if self.is_asking_first && said.has_client != 0 {
+            return Ok(false);
+        }
+        self.refuse(ticket, SystemName::ObjectNotExist, 0).map(|()| true)
     }
 
     /// Has the request performed that waits. It is given up where it can't be read, and answered in
@@ -344,7 +373,11 @@ impl Server {
             }
         };
         let ticket = self.ticket();
-        match self.system(ticket, SystemName::Internal, 0, Completed::Maybe) {
+        let answered = self.system(ticket, SystemName::Internal, 0, Completed::Maybe);
+        if self.is_changing() {
+            self.take_out();
+        }
+        match answered {
             Ok(()) | Err(Error::Ticket) => performed,
             Err(error) => Err(error),
         }
@@ -508,6 +541,9 @@ impl Server {
     /// A connection on which octets became due by the outcome of a parked request, if there is one:
     /// it is named no more for these.
     pub fn next_due(&mut self) -> Option<u64> {
+        if self.is_changing() {
+            self.take_out();
+        }
         let mut connection = 0;
         let found = sys::lr_server_next_due(&mut self.slot, &mut connection);
         (sure(found) != 0).then_some(connection)
@@ -567,12 +603,15 @@ impl Server {
     ///
     /// `Asking`.
     pub fn tick(&mut self, moment: Moment) -> Result<(), Error> {
+        if self.is_changing() {
+            self.take_out();
+        }
         done(sys::lr_server_tick(&mut self.slot, moment.0))
     }
 
     /// Exchanges what it has on offer and a catalogue: so objects are added and taken away while it
     /// serves. What is kept stays. A parked request is answered by an outcome of its operation as
-    /// that is on offer then, or by a system exception.
+    /// that is on offer then, or by a system exception: [`remove`](Server::remove) waits for it.
     ///
     /// # Errors
     ///
@@ -664,7 +703,7 @@ impl Request<'_> {
     /// Reads the arguments.
     #[must_use]
     pub fn reader(&self) -> Reader<'_> {
-        Reader::at(self.body(), self.order, self.said.body_at)
+        Reader::limited(self.body(), self.order, self.said.body_at, self.server.values_limit)
     }
 
     /// Whether the operation is raw.
@@ -739,7 +778,27 @@ impl Request<'_> {
     /// `Parks`, `Memory`: it waits still, and is to be answered or refused now.
     pub fn park(&mut self) -> Result<Ticket, Error> {
         done(sys::lr_server_park(&mut self.server.slot, self.said.ticket))?;
+        let key = self.key().to_vec();
+        self.server.note_parked(self.said.ticket, key);
         Ok(self.ticket())
+    }
+
+    /// Changes what the server has on offer, as [`Server::change`] does, once the request waits no
+    /// more, and before anybody is fed again.
+    ///
+    /// # Errors
+    ///
+    /// Those of `change` on an empty catalogue.
+    pub fn change(
+        &mut self,
+        change: impl Fn(&mut Catalogue) -> Result<(), Error> + Send + 'static,
+    ) -> Result<(), Error> {
+        self.server.change_later(Box::new(change))
+    }
+
+    /// Takes an object away, as [`Server::remove`] does; it may be that of the request.
+    pub fn remove(&mut self, key: impl Into<Vec<u8>>) {
+        self.server.remove(key);
     }
 
     /// Answers by results, as [`Server::answer`] does.

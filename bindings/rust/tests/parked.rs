@@ -282,3 +282,75 @@ fn families_and_a_default_object_lead_many_keys_to_one() -> Result<(), Error> {
     assert_eq!(messages(&server.take_output(1))?.len(), 1);
     other.remove("bank")
 }
+
+/// The exception of the first reply of a stream.
+fn raised(octets: &[u8]) -> Result<Vec<u8>, Error> {
+    let mut assembler = Assembler::open(Limits::default())?;
+    assembler.feed(octets)?;
+    let message = assembler.message()?.ok_or(Error::Idle)?;
+    assert_eq!(message.status(), Some(Status::SystemException));
+    let mut reader = message.reader();
+    reader.string().map(Into::into)
+}
+
+const GONE: &[u8] = b"IDL:omg.org/CORBA/OBJECT_NOT_EXIST:1.0";
+
+#[test]
+fn what_is_parked_of_an_object_that_is_taken_away_ends_by_its_outcome() -> Result<(), Error> {
+    let mut server = connected(&Settings::default())?;
+    let parked = park(&mut server, 1, &deposit(1, 1)?)?;
+
+    // it takes itself away, and answers all the same
+    server.serve(2, NOW, &deposit(2, 2)?, |request| {
+        request.remove("bank");
+        request.answer(Writer::new(Order::Big).longlong(7)?)
+    })?;
+    assert_eq!(messages(&server.take_output(2))?, [(MessageType::Reply, 2, Some(7))]);
+    server.serve(2, NOW, &deposit(3, 3)?, |_| panic!("it is asked"))?;
+    assert_eq!(raised(&server.take_output(2))?, GONE);
+
+    // what is parked ends by its outcome, which a repeat gets
+    server.answer(parked[0], Writer::new(Order::Big).longlong(5)?)?;
+    assert_eq!(server.next_due(), Some(1));
+    assert_eq!(messages(&server.take_output(1))?, [(MessageType::Reply, 1, Some(5))]);
+    server.serve(2, NOW, &deposit(4, 1)?, |_| panic!("it is asked"))?;
+    assert_eq!(messages(&server.take_output(2))?, [(MessageType::Reply, 4, Some(5))]);
+    server.serve(2, NOW, &deposit(5, 4)?, |_| panic!("it is asked"))?;
+    assert_eq!(raised(&server.take_output(2))?, GONE);
+
+    // now there may be another one of its key
+    server.change(|all| {
+        all.object("bank")?;
+        all.operation("bank", "deposit", &DEPOSIT)
+    })?;
+    server.serve(2, NOW, &deposit(6, 5)?, |request| {
+        let another = |all: &mut Catalogue| all.object("another");
+        request.change(another)?;
+        assert_eq!(request.change(|all| all.remove("none")), Err(Error::Object));
+        request.answer(Writer::new(Order::Big).longlong(8)?)
+    })?;
+    assert_eq!(messages(&server.take_output(2))?, [(MessageType::Reply, 6, Some(8))]);
+    assert_eq!(server.change(|all| all.object("another")), Err(Error::Taken));
+    Ok(())
+}
+
+#[test]
+fn who_asks_for_what_was_taken_away_is_asked_for_first() -> Result<(), Error> {
+    let mut server = connected(&Settings::default().ask_first(true))?;
+    let parked = park(&mut server, 1, &deposit(1, 1)?)?;
+    server.remove("bank");
+    let mut refusals = Vec::new();
+    for (request_id, number) in [(2, 2), (3, 3)] {
+        server.serve(2, NOW, &deposit(request_id, number)?, |request| {
+            refusals.push(request.refusal());
+            request.refuse(SystemName::ObjectNotExist, 0)
+        })?;
+        assert_eq!(raised(&server.take_output(2))?, GONE);
+        if number == 2 {
+            server.answer(parked[0], Writer::new(Order::Big).longlong(5)?)?;
+            server.tick(NOW)?;
+        }
+    }
+    assert_eq!(refusals, [Some(SystemName::ObjectNotExist); 2]);
+    Ok(())
+}

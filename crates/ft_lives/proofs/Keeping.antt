@@ -112,11 +112,15 @@ module _ {State : Type 0} (apply : State → Call → State × Performed) where
         a.0.allows,
       )
   once-is-owned front d old new w verdict.Over l there number once =
-      let a = shown-like front old new once.0 l once.1.passes in (
-        once.0,
+      let w = once.0 in
+      let a = shown-like front old new w.changes l w.passes in (
+        w.changes,
         a.1,
-        record { before = with_changes front once.0; after = []; point = sym (append-nil (with_changes front once.0)); over = subst (λ (m : ℕ). d.expiration < m) a.1.mark once.2 },
-        once.1.own,
+        (
+          record { before = with_changes front w.changes; after = []; point = sym (append-nil (with_changes front w.changes)); over = subst (λ (m : ℕ). d.expiration < m) a.1.mark once.1 },
+          w.others,
+        ),
+        λ ask row in_it own. Contains-append_right (d ∷ []) old.doubts (record { ask = ask; key = row.key; expiration = row.expiration }) (w.others ask row in_it own),
         a.0.allows,
       )
   once-is-owned front d old new w verdict.Decline l there number once =

@@ -28,7 +28,7 @@ use Rattle.ft_orb.specs.Requests.{Call, Wanted}
 use Rattle.ft_orb.specs.Table.{Table, forgotten, keyed_step, step_by_field, table_after, table_step}
 use Rattle.ft_orb.specs.Withdrawing.{number_rules}
 use Rattle.ft_lives.specs.Lives.{AreLives, Did, IsKept, Life, Step, Stored, deeds_of, ledger_of, stored, stored_after}
-use Rattle.ft_lives.specs.Owned.{IsException, IsOwned, MayDecline, MayTell, WasHeld, WasOver}
+use Rattle.ft_lives.specs.Owned.{IsException, IsOwned, MayDecline, MayTell, NeverCommits, WasHeld, WasOver}
 use Rattle.ft_lives.specs.Replies.{DeclinedAreFree, IsFree, IsOverOrFree, IsToldRightly, RefusedAreFree, RefusesNoneHeld, RepeatsAreHeld, Says, ToldAreHeld, UnkeptAreRight, WaitersAreToldRightly, unkept_in}
 use Rattle.ft_lives.specs.Stores.{Ask, Change, Committed, Other, Purged, Row, Store, changed, empty_store, held_for}
 use Rattle.ft_lives.proofs.Kept.{deeds-append, stored-append}
@@ -291,21 +291,22 @@ module _ (steps rest : List Step) (key : RequestKey) (kept : IsKept steps) where
 
 module _ (lives : ℕ → Life) where
   may-be-free : (steps front rest : List Step) (n : ℕ) (w : Awaited) (name : SystemName) (key : RequestKey) (expiration : ℕ) → IsKept steps → steps ≡ front ++ rest → MayDecline steps front n w key expiration name
-      → ((name ≡ BadContext) × WasOver front expiration) ⊎ IsFree steps front n w.number key
-  may-be-free steps front rest n w name key expiration kept is (inl over) = inl over
-  may-be-free steps front rest n w name key expiration kept is (inr free) =
-      let f = free.0 in
-      inr (record {
-        before = f.before;
-        after = f.after;
-        point = f.point;
-        request = f.request;
-        asked = f.asked;
-        numbered = f.numbered;
-        free = f.free;
-        uncommitted = free.1;
-        still = λ none. subst (λ (l : List Step). held_for key (stored l) ≡ None) (sym f.point) (free-stays steps rest key kept f.before f.after (is ∙ ap (λ (l : List Step). l ++ rest) f.point) f.free none);
-      })
+      → ((name ≡ BadContext) × WasOver front expiration × NeverCommits steps n w.number) ⊎ IsFree steps front n w.number key
+  may-be-free steps front rest n w name key expiration kept is may =
+      elim may.0 [
+        | inl over ↦ inl (over.0, over.1, may.1)
+        | inr f ↦ inr (record {
+          before = f.before;
+          after = f.after;
+          point = f.point;
+          request = f.request;
+          asked = f.asked;
+          numbered = f.numbered;
+          free = f.free;
+          uncommitted = may.1;
+          still = λ none. subst (λ (l : List Step). held_for key (stored l) ≡ None) (sym f.point) (free-stays steps rest key kept f.before f.after (is ∙ ap (λ (l : List Step). l ++ rest) f.point) f.free none);
+        })
+      ]
 
   -- what an owner may tell is told rightly
   pub told-rightly : (held : Type 0) (steps front rest : List Step) (n : ℕ) (w : Awaited) (key : RequestKey) (expiration : ℕ) (outcome : Performed) → IsKept steps → steps ≡ front ++ rest

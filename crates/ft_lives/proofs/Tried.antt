@@ -169,8 +169,11 @@ module _ {State : Type 0} (apply : State → Call → State × Performed) where
 
     -- What is told, and what is left to try.
 
-    pub told-over : (doubtful : Bool) (old was mid : Shown State) → IsSoFar apply life d doubtful old was → Waits apply life was mid → d.expiration < mid.store.mark → IsOnce apply life d old verdict.Over mid
-    told-over doubtful old was mid a w over = let b = far-waits doubtful old was mid a w in (b.changes, far-own doubtful old mid b, over)
+    pub told-over : (doubtful : Bool) (old was mid : Shown State) → doubtful ≡ false → IsSoFar apply life d doubtful old was → Waits apply life was mid → d.expiration < mid.store.mark → IsOnce apply life d old verdict.Over mid
+    told-over doubtful old was mid sure a w over =
+        let b = far-waits doubtful old was mid a w in
+        let c = b.clear sure in
+        (record { changes = b.changes; passes = b.passes; others = c.0; doubts = c.1 }, over)
 
     pub told-held : (doubtful : Bool) (old was mid : Shown State) (outcome : Outcome) → IsSoFar apply life d doubtful old was → Waits apply life was mid → held_for d.key mid.store ≡ Some (performed_in outcome)
         → IsOnce apply life d old (verdict.Answer outcome) mid

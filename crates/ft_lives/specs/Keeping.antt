@@ -26,11 +26,11 @@ StoresMayForget = (s v : Store) → IsLike s v → ((key : RequestKey) → held_
 abbrev pub with_changes : List Step → List Change → List Step
 with_changes front changes = front ++ map (λ c. Stored c) changes
 
--- What a verdict promises of the steps up to it: the rule for an answer; for a request that is over; and for a decline, which commits
--- nothing of it.
+-- What a verdict promises of the steps up to it: the rule for an answer; for a request that is over; and for a decline. Neither of
+-- these commits anything of it.
 abbrev pub Keeps : List Step → List Change → Doubt → List Doubt → Verdict → Type 0
 Keeps front changes d doubts (verdict.Answer outcome) = WasHeld (with_changes front changes) d.key (performed_in outcome)
-Keeps front changes d doubts verdict.Over = WasOver (with_changes front changes) d.expiration
+Keeps front changes d doubts verdict.Over = WasOver (with_changes front changes) d.expiration × AreOthers d.ask.life doubts changes
 Keeps front changes d doubts verdict.Decline = WasFree (with_changes front changes) d.ask.life d.ask.number d.key × AreOthers d.ask.life doubts changes
 Keeps front changes d doubts verdict.Unknown = Unit {0}
 

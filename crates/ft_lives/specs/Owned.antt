@@ -54,10 +54,10 @@ pub record WasFree (steps : List Step) (life number : ℕ) (key : RequestKey) : 
 abbrev pub NeverCommits : List Step → (life number : ℕ) → Type 0
 NeverCommits steps life number = (ask : Ask) (row : Row) → Contains steps (Stored (Committed ask row)) → ask.life ≡ life → ask.number ≡ number → ⊥
 
--- A request is declined: by BAD_CONTEXT, since its expiration lay before the mark; or, where the store held nothing for it when that was
--- looked up, and nothing is committed for it, before or after.
+-- A request is declined, of which nothing is committed, before or after: by BAD_CONTEXT, since its expiration lay before the mark; or
+-- since the store held nothing for it when that was looked up.
 abbrev pub MayDecline : (all front : List Step) → (life : ℕ) → Awaited → RequestKey → (expiration : ℕ) → SystemName → Type 0
-MayDecline all front life w key expiration name = ((name ≡ BadContext) × WasOver front expiration) ⊎ (WasFree front life w.number key × NeverCommits all life w.number)
+MayDecline all front life w key expiration name = (((name ≡ BadContext) × WasOver front expiration) ⊎ WasFree front life w.number key) × NeverCommits all life w.number
 
 -- a system exception, of values, or of octets in either byte order
 abbrev pub IsException : SystemName → (minor : ℕ) → Completion → Performed → Type 0

@@ -18,7 +18,7 @@ use Rattle.ft_orb.specs.Parking.{Settings, by_number, not_now}
 use Rattle.ft_orb.specs.Requests.{Origin, Wanted, asking, field_of, is_named_within}
 use Rattle.ft_orb.specs.Table.{table_after, table_step}
 use Rattle.ft_lives.specs.Lives.{AreLives, Did, IsKept, Life, Step, Stored, deeds_of, ledger_of, requests_of, stored}
-use Rattle.ft_lives.specs.Owned.{IsException, IsMaybe, IsOwned, WasHeld, WasOver}
+use Rattle.ft_lives.specs.Owned.{IsException, IsMaybe, IsOwned, NeverCommits, WasHeld, WasOver}
 use Rattle.ft_lives.specs.Stores.{Ask, Committed, Row, held_for}
 
 -- the event of which a deed takes arrivals, if it takes any
@@ -67,9 +67,10 @@ unkept_in g (Settled i n outcome told) = None
 unkept_in g (AnsweredUnkept a outcome written) = Some (a.request, outcome)
 unkept_in g (SettledUnkept i n outcome told) = option_map (λ w. (w, outcome)) (g.there n)
 
--- a refusal that says that nothing was done is of a request that is over, by the mark, or of one that is free
+-- a refusal that says that nothing was done is of a request that is over, by the mark, and of which nothing is committed; or of one that
+-- is free
 abbrev pub IsOverOrFree : (steps front : List Step) → (life : ℕ) → Awaited → RequestKey → (expiration : ℕ) → SystemName → Type 0
-IsOverOrFree steps front life w key expiration name = ((name ≡ BadContext) × WasOver front expiration) ⊎ IsFree steps front life w.number key
+IsOverOrFree steps front life w key expiration name = ((name ≡ BadContext) × WasOver front expiration × NeverCommits steps life w.number) ⊎ IsFree steps front life w.number key
 
 -- What was told of a request and not kept is the store's, as `held` says; or it says COMPLETED_MAYBE; or COMPLETED_NO, and that is true.
 abbrev pub IsToldRightly : (held : Type 0) → (steps front : List Step) → (life : ℕ) → Awaited → RequestKey → (expiration : ℕ) → Performed → Type 0

@@ -109,10 +109,10 @@ module _ {State : Type 0} (apply : State → Call → State × Performed) where
     pub others : AreOthers life old.doubts (early ++ late)
     pub doubts : new.doubts ≡ old.doubts
 
-  -- What performing a request once comes to. The answer is what the store holds. It is over: its expiration lies before the mark. It may
-  -- be declined. Or it is not known what came of it, and it may be neither answered nor declined.
+  -- What performing a request once comes to. The answer is what the store holds. It is over: its expiration lies before the mark, and
+  -- others alone committed meanwhile. It may be declined. Or it is not known what came of it, and it may be neither answered nor declined.
   abbrev pub IsOnce : (life : ℕ) → Doubt → Shown State → Verdict → Shown State → Type 0
   IsOnce life d old (verdict.Answer outcome) new = (changes : List Change) × IsOwn life d old changes new × (held_for d.key new.store ≡ Some (performed_in outcome))
-  IsOnce life d old verdict.Over new = (changes : List Change) × IsOwn life d old changes new × (d.expiration < new.store.mark)
+  IsOnce life d old verdict.Over new = Waits life old new × (d.expiration < new.store.mark)
   IsOnce life d old verdict.Decline new = IsFreed life d old new
   IsOnce life d old verdict.Unknown new = (changes : List Change) × IsOwn life d old changes new

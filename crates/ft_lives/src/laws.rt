@@ -15,7 +15,7 @@ use ft_objects::Servant;
 /// The law over lives, of each key whose requests carry one expiration in all of them: at most one call is committed; it was
 /// asked for before, by an arrival that was not over; and each outcome that a life gives for the key, at once, later or
 /// again, kept or not, is that of the one commit. What is told unkept may be a refusal: COMPLETED_MAYBE, or COMPLETED_NO of
-/// what is over, or of which nothing is committed.
+/// what is over or free, and of which nothing is committed.
 pub fn lives_act_once()
     ensures { (lives : ℕ → Life) → LivesActOnce lives }
 {

@@ -7,7 +7,7 @@ use ft_log::Outcome;
 pub enum Verdict {
     /// It answers with what the store holds.
     Answer(Outcome),
-    /// It declines by BAD_CONTEXT: the request is over, by the store's mark.
+    /// It declines by BAD_CONTEXT: the request is over, by the store's mark, and nothing was done for it.
     Over,
     /// It may decline: nothing was done for the request, and none of it can come true any more.
     Decline,

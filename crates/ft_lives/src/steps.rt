@@ -28,6 +28,7 @@ fn try_once<S: Store>(
     ensures life { S.life store.new ≡ S.life store.old }
 {
     match store.find(alloc, request.key, request.expiration) {
+        Found::Over if doubtful => return Err(Verdict::Unknown),
         Found::Over => return Err(Verdict::Over),
         Found::Held(outcome) => return Err(Verdict::Answer(outcome)),
         Found::Silent => return Ok(doubtful),
@@ -67,7 +68,8 @@ pub fn look_once<S: Store>(
 
 /// Takes an owner's steps for a request that waits, at most so many times: looks it up; answers by what is there; else
 /// commits its effect and its row at once, and answers then. Where no answer came to a commit it looks up again, and
-/// performs again: the store lets one of them come true. It declines only what can't come true any more.
+/// performs again: the store lets one of them come true. It declines only what has not come true, and can't any more: so of
+/// what is over it does not know what came of it, where a commit is in doubt.
 pub fn perform_once<S: Store>(
     alloc: Global,
     store: &mut S,

@@ -47,8 +47,8 @@ impl<C: Catalogue + Drop> Engine<C> {
     /// now on is served by what it is then. What is kept stays: a repeat is known by its key alone, so it gets the outcome of
     /// its first performance though its object is gone.
     ///
-    /// A request that is parked is settled with an outcome of its operation as that is on offer when it is settled, or with a
-    /// system exception, whatever is on offer (`change_object`).
+    /// A request that is parked is settled with an outcome of its operation as that is on offer when it is settled; or,
+    /// whatever is on offer, with raw octets or a system exception (`change_object`).
     pub fn change<R, F: FnOnce(&mut C) -> R>(&mut self, change: F) -> R
         requires idle { waits_in self.old ≡ None }
         requires callable { F.IsAlwaysCallable change }

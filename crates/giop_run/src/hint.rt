@@ -7,7 +7,7 @@ use giop_text::is_capture;
 use std::fmt;
 
 /// What helps where a stream was refused or doesn't end well.
-#[derive(Clone, Copy, Debug, PartialEq, Eq)]
+#[derive(Clone, Copy)]
 pub enum Hint {
     /// Input comes from a terminal.
     Waiting,
@@ -23,21 +23,18 @@ pub enum Hint {
 
 impl fmt::Display for Hint {
     fn fmt<W: fmt::Write>(&self, f: &mut fmt::Formatter<W>) -> fmt::Result {
-        match self {
-            Hint::Waiting => f.write_str(
-                "hint: input is waited for on this terminal; Ctrl-D ends it",
-            ),
-            Hint::Capture => f.write_str(
-                "hint: the input is a packet capture; tshark -r CAPTURE -q -z follow,tcp,raw,N prints the octets of its TCP connection N as digits",
-            ),
-            Hint::Binary => f.write_str(
-                "hint: the input is binary; --raw takes octets as they are",
-            ),
-            Hint::Follow => f.write_str(
-                "hint: the input is what tshark prints of both sides of a connection; giop trace reads it",
-            ),
-            Hint::Colons => f.write_str("hint: the input has colons; tr -d : leaves them out"),
-        }
+        let text = match self {
+            Hint::Waiting => "hint: input is waited for on this terminal; Ctrl-D ends it",
+            Hint::Capture => {
+                "hint: the input is a packet capture; tshark -r CAPTURE -q -z follow,tcp,raw,N prints the octets of its TCP connection N as digits"
+            }
+            Hint::Binary => "hint: the input is binary; --raw takes octets as they are",
+            Hint::Follow => {
+                "hint: the input is what tshark prints of both sides of a connection; giop trace reads it"
+            }
+            Hint::Colons => "hint: the input has colons; tr -d : leaves them out",
+        };
+        f.write_str(text)
     }
 }
 

@@ -1,5 +1,8 @@
 //! An engine and its owner: how pieces are fed, and what is asked for is answered or parked.
 
+ghost use Rattle.std.specs.Prelude.{◌≡◌, IfOk, IsSome, None};
+ghost use Rattle.ft_orb.specs.Engines.{IsOpen, waits_in};
+
 use crate::journal::Journal;
 use crate::owner::{Manner, Owner};
 use crate::play::Terms;
@@ -10,7 +13,7 @@ use std::alloc::{AllocError, Global};
 use std::hash::RandomState;
 
 /// Why something that happened on a connection was not served to its end.
-#[derive(Clone, Copy, Debug, PartialEq, Eq)]
+#[derive(Clone, Copy)]
 pub(crate) enum Unserved {
     /// There is no such connection, or its number is not new.
     Refused,
@@ -71,10 +74,24 @@ pub(crate) struct Host {
     pub(crate) journal: Journal,
 }
 
-impl Host {
-    ghost use Rattle.std.specs.Prelude.{◌≡◌, IfOk, IsSome, None};
-    ghost use Rattle.ft_orb.specs.Engines.{IsOpen, waits_in};
+/// An engine to which nothing has happened.
+fn new_engine(
+    alloc: Global,
+    catalogue: Counter,
+    terms: Terms,
+    places: Places,
+    hasher: RandomState,
+) -> Engine<Counter>
+    ensures { waits_in result ≡ None }
+{
+    let retention = Retention {
+        capacity: terms.capacity,
+        share: terms.share,
+    };
+    Engine::new(alloc, catalogue, terms.limits, retention, places, hasher)
+}
 
+impl Host {
     /// An engine to which nothing has happened, and an owner that performs.
     pub(crate) fn new(
         alloc: Global,
@@ -87,16 +104,12 @@ impl Host {
     {
         // (of this one only the types of the operations count)
         let catalogue = Counter::new(alloc, terms.start)?;
-        let retention = Retention {
-            capacity: terms.capacity,
-            share: terms.share,
-        };
-        let engine = Engine::new(alloc, catalogue, terms.limits, retention, places, hasher);
         let owner = Owner {
             alloc,
             counter: Counter::new(alloc, terms.start)?,
             manner: Manner::Performs,
         };
+        let engine = new_engine(alloc, catalogue, terms, places, hasher);
         Ok(Host {
             engine,
             owner,
@@ -159,11 +172,28 @@ impl Host {
         if self.journal.put_asked(&asked).is_err() {
             return Err(Unserved::GivenUp(self.engine.give_up(number)));
         }
-        if let Some(outcome) = self.owner.perform(&asked)
-            && self.engine.can_answer(number, &outcome)
-        {
-            return Ok(self.engine.answer(number, outcome, out)?);
+        match self.owner.perform(&asked) {
+            Some(outcome) => self.hand_in(number, outcome, out),
+            None => self.refuse(number, out),
         }
+    }
+
+    /// Hands in the outcome of the request of this number, which waits.
+    fn hand_in(&mut self, number: u64, outcome: Outcome, out: &mut Vec<u8>) -> Result<(), Unserved>
+        requires open { IsOpen number (waits_in self.old.engine) }
+        ensures idle { waits_in self.new.engine ≡ None }
+    {
+        if !self.engine.can_answer(number, &outcome) {
+            return self.refuse(number, out);
+        }
+        Ok(self.engine.answer(number, outcome, out)?)
+    }
+
+    /// Declines the request of this number, which waits, or gives it up.
+    fn refuse(&mut self, number: u64, out: &mut Vec<u8>) -> Result<(), Unserved>
+        requires open { IsOpen number (waits_in self.old.engine) }
+        ensures idle { waits_in self.new.engine ≡ None }
+    {
         match self.owner.manner {
             Manner::Declines => Ok(self.engine.decline(number, SystemName::Transient, 0, out)?),
             Manner::Leaves => Err(Unserved::GivenUp(self.leave(number, out))),
@@ -267,7 +297,7 @@ impl Host {
 }
 
 /// What came of an answer to a request that is parked, or of declining it.
-#[derive(Clone, Copy, Debug, PartialEq, Eq)]
+#[derive(Clone, Copy)]
 pub(crate) enum Settled {
     /// Replies are due to all who wait for it.
     Told,

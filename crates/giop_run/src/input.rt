@@ -59,10 +59,11 @@ pub fn read_octets<F: Files, R: Read>(
     input: &Input,
     stdin: &mut R,
 ) -> Result<Vec<u8>, Stop> {
-    match input.file {
-        Some(name) => {
-            read_file(alloc, rt, name).map_err(|error| unreadable_file(alloc, name, error))
-        }
-        None => read_input(alloc, stdin),
+    let Some(name) = input.file else {
+        return read_input(alloc, stdin);
+    };
+    match read_file(alloc, rt, name) {
+        Ok(octets) => Ok(octets),
+        Err(error) => Err(unreadable_file(alloc, name, error)),
     }
 }

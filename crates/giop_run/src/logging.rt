@@ -36,15 +36,25 @@ impl<E> Model for LoggedCounter<E> {
     ghost view = { λ l. l.counter };
 }
 
+/// Appends which request it is.
+fn put_request(
+    alloc: Global,
+    connection: u64,
+    request: &Request,
+    line: &mut String,
+) -> Result<(), AllocError> {
+    let id = request.request_id;
+    write!(line, "{connection} Request id {id} ")?;
+    put_target(alloc, &request.target, line)?;
+    line.push_str(" operation ")?;
+    line.push_str(&text_of(alloc, request.operation)?)?;
+    put_ft(alloc, &ft_request(&request.contexts), line)
+}
+
 /// The front of a request's line: its connection, and which it is.
 fn front_of(alloc: Global, connection: u64, request: &Request) -> Result<String, AllocError> {
     let mut line = String::new(alloc);
-    let id = request.request_id;
-    write!(line, "{connection} Request id {id} ")?;
-    put_target(alloc, &request.target, &mut line)?;
-    let operation = text_of(alloc, request.operation)?;
-    write!(line, " operation {operation}")?;
-    put_ft(alloc, &ft_request(&request.contexts), &mut line)?;
+    put_request(alloc, connection, request, &mut line)?;
     Ok(line)
 }
 

@@ -1,21 +1,42 @@
 //! The lines that show a reference to a person: with the standard's names, and what its octets say.
 
 use giop_text::{digits_of, profile_name, put_component, text_of};
-use ior_core::{IiopProfile, Ior, IorError, Profile, TAG_INTERNET_IOP, read_iiop};
+use ior_core::{Component, IiopProfile, Ior, IorError, Profile, TAG_INTERNET_IOP, read_iiop};
 use std::alloc::{AllocError, Global};
+
+/// Appends an address: its host and its port. A host that has colons, as an address of IPv6, stands in brackets.
+fn put_address(alloc: Global, host: &[u8], port: u16, text: &mut String) -> Result<(), AllocError> {
+    let name = text_of(alloc, host)?;
+    if host.contains(&b':') {
+        return write!(text, "[{name}]:{port}");
+    }
+    write!(text, "{name}:{port}")
+}
+
+/// Appends the line of a component.
+fn put_line(alloc: Global, component: &Component, text: &mut String) -> Result<(), AllocError> {
+    text.push_str("  ")?;
+    put_component(alloc, component, text)?;
+    text.push('\n')
+}
+
+/// Appends an object key, in digits and as text.
+fn put_key(alloc: Global, key: &[u8], text: &mut String) -> Result<(), AllocError> {
+    text.push_str(&digits_of(alloc, key)?)?;
+    text.push(' ')?;
+    text.push_str(&text_of(alloc, key)?)
+}
 
 /// Appends the lines of an IIOP profile.
 fn put_iiop(alloc: Global, profile: &IiopProfile, text: &mut String) -> Result<(), AllocError> {
     let minor = profile.minor;
-    let host = text_of(alloc, &profile.host)?;
-    let port = profile.port;
-    let digits = digits_of(alloc, &profile.object_key)?;
-    let key = text_of(alloc, &profile.object_key)?;
-    write!(text, "iiop 1.{minor} {host}:{port} key {digits} {key}\n")?;
+    write!(text, "iiop 1.{minor} ")?;
+    put_address(alloc, &profile.host, profile.port, text)?;
+    text.push_str(" key ")?;
+    put_key(alloc, &profile.object_key, text)?;
+    text.push('\n')?;
     for component in &profile.components {
-        text.push_str("  ")?;
-        put_component(alloc, component, text)?;
-        text.push('\n')?;
+        put_line(alloc, component, text)?;
     }
     Ok(())
 }
@@ -42,6 +63,18 @@ fn put_profile(alloc: Global, profile: &Profile, text: &mut String) -> Result<()
     }
 }
 
+/// Appends the lines of a reference that is not nil.
+fn put_reference(alloc: Global, ior: &Ior, text: &mut String) -> Result<(), AllocError> {
+    if !ior.type_id.is_empty() {
+        let type_id = text_of(alloc, &ior.type_id)?;
+        write!(text, "type {type_id}\n")?;
+    }
+    for profile in &ior.profiles {
+        put_profile(alloc, profile, text)?;
+    }
+    Ok(())
+}
+
 /// The lines that show a reference to a person: `nil`, or its type, where it has one, and its addresses with their
 /// components.
 pub(crate) fn named_lines(alloc: Global, ior: &Ior) -> Result<String, AllocError> {
@@ -49,12 +82,6 @@ pub(crate) fn named_lines(alloc: Global, ior: &Ior) -> Result<String, AllocError
         return String::from_str(alloc, "nil\n");
     }
     let mut text = String::new(alloc);
-    if !ior.type_id.is_empty() {
-        let type_id = text_of(alloc, &ior.type_id)?;
-        write!(text, "type {type_id}\n")?;
-    }
-    for profile in &ior.profiles {
-        put_profile(alloc, profile, &mut text)?;
-    }
+    put_reference(alloc, ior, &mut text)?;
     Ok(text)
 }

@@ -8,7 +8,7 @@ use ft_orb::Asked;
 use std::alloc::{AllocError, Global};
 
 /// How the owner answers.
-#[derive(Clone, Copy, Debug, PartialEq, Eq)]
+#[derive(Clone, Copy)]
 pub(crate) enum Manner {
     /// By what its counter does.
     Performs,

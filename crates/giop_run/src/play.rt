@@ -14,7 +14,7 @@ use std::alloc::Global;
 use std::hash::RandomState;
 
 /// What a play keeps to.
-#[derive(Clone, Copy, Debug, PartialEq, Eq)]
+#[derive(Clone, Copy)]
 pub(crate) struct Terms {
     /// How many outcomes the server keeps at a time.
     pub(crate) capacity: u32,
@@ -27,7 +27,7 @@ pub(crate) struct Terms {
 }
 
 /// What was written for each event, and the total after them.
-#[derive(Debug, Drop)]
+#[derive(Drop)]
 pub(crate) struct Played {
     pub(crate) written: Vec<Written>,
     pub(crate) total: i64,

@@ -8,12 +8,12 @@ use crate::hint::{Hint, hint_of};
 use crate::host::Host;
 use crate::input::{read_input, read_octets};
 use crate::naming::named_lines;
-use crate::play::{Terms, play_events};
+use crate::play::{Played, Terms, play_events};
 use crate::reference::reference_lines;
 use crate::script::read_script;
 use crate::setting::{DONE, EnginePlay, FAILED, Form, Input, IorShow, Numbers, REFUSED, Task};
 use crate::stepping::print_play;
-use crate::steps::read_steps;
+use crate::steps::{Line, read_steps};
 use crate::stop::Stop;
 use crate::stream::{Detail, show_octets, show_stream};
 use crate::url::reference_in;
@@ -37,16 +37,11 @@ fn print_entry<W: Write>(alloc: Global, entry: &Written, out: &mut W) -> Result<
 }
 
 /// Prints a line for each entry with octets, and the total.
-fn print_written<W: Write>(
-    alloc: Global,
-    written: &[Written],
-    total: i64,
-    out: &mut W,
-) -> Result<(), Stop> {
-    let mut out = BufWriter::new(alloc, out)?;
-    for entry in written {
-        print_entry(alloc, entry, &mut out)?;
+fn print_entries<W: Write>(alloc: Global, played: &Played, out: &mut W) -> Result<(), Stop> {
+    for entry in &played.written {
+        print_entry(alloc, entry, out)?;
     }
+    let total = played.total;
     writeln!(out, "total {total}")?;
     out.flush()?;
     Ok(())
@@ -66,43 +61,52 @@ fn read_events<R: Read>(alloc: Global, input: &mut R) -> Result<Vec<Event>, Stop
     Ok(read_script(alloc, script)?)
 }
 
-/// Plays the script that a reader gives, and prints what is written.
-fn play_script<R: Read, W: Write>(
-    alloc: Global,
-    terms: Terms,
-    hasher: RandomState,
-    input: &mut R,
-    out: &mut W,
-) -> Result<(), Stop> {
-    let events = read_events(alloc, input)?;
-    let played = play_events(alloc, terms, hasher, events.as_slice())?;
+/// Prints what a play wrote, unless an allocation failed in it.
+fn print_played<W: Write>(alloc: Global, played: &Played, out: &mut W) -> Result<(), Stop> {
     if played.written.iter().any(is_cut_short) {
         return Err(Stop::Memory);
     }
-    print_written(alloc, played.written.as_slice(), played.total, out)
+    let mut out = BufWriter::new(alloc, out)?;
+    print_entries(alloc, played, &mut out)
 }
 
-/// Plays the script that a reader gives on an engine whose owner keeps the counter, and prints what comes of it.
-fn play_on_engine<R: Read, W: Write>(
+/// Plays events on a server, and prints what is written.
+fn play_on_server<W: Write>(
     alloc: Global,
     terms: Terms,
-    play: &EnginePlay,
     hasher: RandomState,
-    input: &mut R,
+    events: &[Event],
     out: &mut W,
 ) -> Result<(), Stop> {
+    let played = play_events(alloc, terms, hasher, events)?;
+    print_played(alloc, &played, out)
+}
+
+/// The lines of the script of a play on an engine that a reader gives.
+fn read_lines<R: Read>(alloc: Global, input: &mut R) -> Result<Vec<Line>, Stop> {
     let octets = read_input(alloc, input)?;
     let Ok(script) = str::from_utf8(&octets) else {
         return Err(Stop::Unreadable);
     };
-    let lines = read_steps(alloc, script)?;
+    Ok(read_steps(alloc, script)?)
+}
+
+/// Plays lines on an engine whose owner keeps the counter, and prints what comes of them.
+fn play_on_engine<W: Write>(
+    alloc: Global,
+    terms: Terms,
+    play: &EnginePlay,
+    hasher: RandomState,
+    lines: &[Line],
+    out: &mut W,
+) -> Result<(), Stop> {
     let places = Places {
         parked: play.parked,
         of_one: play.parked,
         joined: play.joined,
     };
     let mut host = Host::new(alloc, terms, places, play.asks, hasher)?;
-    print_play(alloc, &mut host, &lines, out)
+    print_play(alloc, &mut host, lines, out)
 }
 
 /// The share of each client, which is the capacity where none is given. None where it is 0 or greater than the
@@ -118,6 +122,16 @@ fn share_in(capacity: u32, share: Option<u32>) -> Option<u32>
     }
 }
 
+/// The lines of the reference that a text is.
+fn lines_of(alloc: Global, text: &str, has_names: bool) -> Result<String, Stop> {
+    let ior = reference_in(alloc, text)?;
+    let lines = match has_names {
+        true => named_lines(alloc, &ior),
+        false => reference_lines(alloc, &ior),
+    };
+    Ok(lines?)
+}
+
 /// Prints the lines of the reference that a text is.
 fn print_reference<W: Write>(
     alloc: Global,
@@ -125,11 +139,7 @@ fn print_reference<W: Write>(
     has_names: bool,
     out: &mut W,
 ) -> Result<(), Stop> {
-    let ior = reference_in(alloc, text)?;
-    let lines = match has_names {
-        true => named_lines(alloc, &ior)?,
-        false => reference_lines(alloc, &ior)?,
-    };
+    let lines = lines_of(alloc, text, has_names)?;
     out.write_all(lines.as_bytes())?;
     out.flush()?;
     Ok(())
@@ -141,23 +151,21 @@ fn without_end(text: &str) -> &str {
 }
 
 /// Shows a reference.
-fn show_reference<R: Read, W: Write, E: Write>(
+fn show_reference<R: Read, W: Write>(
     alloc: Global,
     reference: &IorShow,
-    streams: &mut Streams<'_, R, W, E>,
-) -> Result<bool, Stop> {
+    input: &mut R,
+    out: &mut W,
+) -> Result<(), Stop> {
     let has_names = reference.has_names;
-    match reference.text {
-        Some(text) => print_reference(alloc, without_end(text), has_names, streams.out)?,
-        None => {
-            let octets = read_input(alloc, streams.input)?;
-            let Ok(text) = str::from_utf8(&octets) else {
-                return Err(Stop::Unreadable);
-            };
-            print_reference(alloc, without_end(text), has_names, streams.out)?
-        }
+    if let Some(text) = reference.text {
+        return print_reference(alloc, without_end(text), has_names, out);
     }
-    Ok(true)
+    let octets = read_input(alloc, input)?;
+    match str::from_utf8(&octets) {
+        Ok(text) => print_reference(alloc, without_end(text), has_names, out),
+        Err(_) => Err(Stop::Unreadable),
+    }
 }
 
 /// Shows a stream that was read, under the default limits, and returns whether it ends well.
@@ -179,7 +187,7 @@ fn show<W: Write>(
 }
 
 /// What came of a task: whether it ended well, or why it stopped, and what helps where it did not.
-#[derive(Debug, Drop)]
+#[derive(Drop)]
 struct End {
     came: Result<bool, Stop>,
     hint: Option<Hint>,
@@ -187,7 +195,11 @@ struct End {
 
 impl End {
     /// An end with which nothing helps.
-    fn plain(came: Result<bool, Stop>) -> End {
+    fn of(came: Result<(), Stop>) -> End {
+        let came = match came {
+            Ok(()) => Ok(true),
+            Err(stop) => Err(stop),
+        };
         End { came, hint: None }
     }
 }
@@ -202,7 +214,7 @@ fn show_input<F: Files, R: Read, W: Write, E: Write>(
 ) -> End {
     let octets = match read_octets(alloc, rt, input, streams.input) {
         Ok(octets) => octets,
-        Err(stop) => return End::plain(Err(stop)),
+        Err(stop) => return End::of(Err(stop)),
     };
     let came = show(alloc, input.form, &octets, detail, streams.out);
     // (to look for one takes a pass over the octets)
@@ -227,32 +239,38 @@ pub(crate) fn terms_of(numbers: Numbers) -> Option<Terms>
     })
 }
 
-/// Plays the script on standard input, unless the share is bad.
-fn play_input<R: Read, W: Write, E: Write>(
+/// Plays the script that a reader gives, unless the share is bad.
+fn play_input<R: Read, W: Write>(
     alloc: Global,
     numbers: Numbers,
     hasher: RandomState,
-    streams: &mut Streams<'_, R, W, E>,
-) -> Result<bool, Stop>
+    input: &mut R,
+    out: &mut W,
+) -> Result<(), Stop>
     requires { AreInRange numbers }
 {
-    let terms = terms_of(numbers).ok_or(Stop::BadShare)?;
-    play_script(alloc, terms, hasher, streams.input, streams.out)?;
-    Ok(true)
+    let Some(terms) = terms_of(numbers) else {
+        return Err(Stop::BadShare);
+    };
+    let events = read_events(alloc, input)?;
+    play_on_server(alloc, terms, hasher, &events, out)
 }
 
-/// Plays the script on standard input on an engine, unless the share is bad.
-fn play_input_on_engine<R: Read, W: Write, E: Write>(
+/// Plays the script that a reader gives on an engine, unless the share is bad.
+fn play_input_on_engine<R: Read, W: Write>(
     alloc: Global,
     play: &EnginePlay,
     hasher: RandomState,
-    streams: &mut Streams<'_, R, W, E>,
-) -> Result<bool, Stop>
+    input: &mut R,
+    out: &mut W,
+) -> Result<(), Stop>
     requires { AreInRange play.now.numbers }
 {
-    let terms = terms_of(play.numbers).ok_or(Stop::BadShare)?;
-    play_on_engine(alloc, terms, play, hasher, streams.input, streams.out)?;
-    Ok(true)
+    let Some(terms) = terms_of(play.numbers) else {
+        return Err(Stop::BadShare);
+    };
+    let lines = read_lines(alloc, input)?;
+    play_on_engine(alloc, terms, play, hasher, &lines, out)
 }
 
 /// Does a task.
@@ -266,9 +284,15 @@ fn perform<F: Files, R: Read, W: Write, E: Write>(
     requires { IsInRange task.now }
 {
     match task {
-        Task::Play(numbers) => End::plain(play_input(alloc, *numbers, hasher, streams)),
-        Task::Engine(play) => End::plain(play_input_on_engine(alloc, play, hasher, streams)),
-        Task::Ior(reference) => End::plain(show_reference(alloc, reference, streams)),
+        Task::Play(numbers) => {
+            End::of(play_input(alloc, *numbers, hasher, streams.input, streams.out))
+        }
+        Task::Engine(play) => {
+            End::of(play_input_on_engine(alloc, play, hasher, streams.input, streams.out))
+        }
+        Task::Ior(reference) => {
+            End::of(show_reference(alloc, reference, streams.input, streams.out))
+        }
         Task::Show(input) => show_input(alloc, rt, input, Detail::Messages, streams),
         Task::Check(input) => show_input(alloc, rt, input, Detail::EndAlone, streams),
     }

@@ -9,7 +9,7 @@ use hex::FromHexError;
 use std::alloc::{AllocError, Global};
 
 /// Why a script was not read.
-#[derive(Clone, Copy, Debug, PartialEq, Eq)]
+#[derive(Clone, Copy, Debug)]
 pub enum ScriptError {
     /// The line with that number, counted from 1, is no event.
     BadLine(u64),
@@ -18,7 +18,7 @@ pub enum ScriptError {
 }
 
 /// Why a line gave no event: it is none, or an allocation failed.
-#[derive(Clone, Copy, Debug, PartialEq, Eq)]
+#[derive(Clone, Copy)]
 pub(crate) enum EventError {
     Bad,
     Memory,
@@ -29,7 +29,10 @@ pub(crate) fn decimal(word: &str) -> Result<u64, EventError> {
     if !word.bytes().all(|b| b.is_ascii_digit()) {
         return Err(EventError::Bad);
     }
-    word.parse().map_err(|_| EventError::Bad)
+    match word.parse() {
+        Ok(number) => Ok(number),
+        Err(_) => Err(EventError::Bad),
+    }
 }
 
 /// Octets in hexadecimal digits of either case, at least one octet.
@@ -71,7 +74,10 @@ fn put_event(alloc: Global, line: &str, events: &mut Vec<Event>) -> Result<(), E
         return Ok(());
     }
     let event = event_in(alloc, line)?;
-    events.push(event).map_err(|_| EventError::Memory)
+    match events.push(event) {
+        Ok(()) => Ok(()),
+        Err(_) => Err(EventError::Memory),
+    }
 }
 
 /// The events of a script, in order.

@@ -1,8 +1,8 @@
 //! The counter as a service on this machine.
 
-ghost use Rattle.std.specs.Prelude.{◌≤◌};
+ghost use Rattle.std.specs.Prelude.{◌≡◌, ◌≤◌};
 ghost use Rattle.ft_orb.specs.Standing.{IsNew};
-ghost use Rattle.giop_run.specs.Services.{IsOffered};
+ghost use Rattle.giop_run.specs.Services.{AreTermsOf, IsOffered};
 ghost use Rattle.giop_run.specs.Settings.{IsServable};
 
 use crate::logging::LoggedCounter;
@@ -52,9 +52,8 @@ fn new_server<S: Servant + Drop>(
 
 /// How long a read or a write may take.
 fn timeout_of(service: &Service) -> Option<Duration> {
-    service
-        .timeout
-        .map(|seconds| Duration::from_secs(u64::from(seconds)))
+    let seconds = service.timeout?;
+    Some(Duration::from_secs(u64::from(seconds)))
 }
 
 /// Serves the connections of a listener by a server.
@@ -66,9 +65,10 @@ fn serve_by<S: Servant + Drop, C: Clock>(
     clock: &mut C,
 ) -> Result<(), Stop> {
     let timeout = timeout_of(service);
-    serve_on(alloc, listener, service.connections, timeout, server, clock).map_err(
-        |_| Stop::CannotAccept,
-    )
+    match serve_on(alloc, listener, service.connections, timeout, server, clock) {
+        Ok(()) => Ok(()),
+        Err(_) => Err(Stop::CannotAccept),
+    }
 }
 
 /// Serves the connections of a listener by a new server, and prints a line for each request.
@@ -97,6 +97,43 @@ fn serve_plain<C: Clock>(
     serve_by(alloc, listener, service, server, clock)
 }
 
+/// Prints the reference, and listens.
+fn listen<R: Net<Listener = TcpListener, Stream = TcpStream>, W: Write>(
+    alloc: Global,
+    rt: &R,
+    port: u16,
+    out: &mut W,
+) -> Result<TcpListener, Stop> {
+    print_address(alloc, port, out)?;
+    match TcpListener::bind(rt, (Ipv4Addr::LOCALHOST, port)) {
+        Ok(listener) => Ok(listener),
+        Err(_) => Err(Stop::CannotListen),
+    }
+}
+
+/// Serves the connections of a listener by a counter and a server that keep to these terms.
+fn serve_counter<C: Clock, L: Write + Drop>(
+    alloc: Global,
+    listener: &TcpListener,
+    service: &Service,
+    terms: Terms,
+    counter: Counter,
+    hasher: RandomState,
+    clock: &mut C,
+    log: L,
+) -> Result<(), Stop>
+    requires asked { AreTermsOf service.now.numbers terms }
+    requires total { counter ≡ terms.start }
+{
+    if service.log {
+        let logged = LoggedCounter::new(alloc, counter, log);
+        let mut server = new_server(alloc, logged, terms, hasher);
+        return serve_logged(alloc, listener, service, &mut server, clock);
+    }
+    let mut server = new_server(alloc, counter, terms, hasher);
+    serve_plain(alloc, listener, service, &mut server, clock)
+}
+
 /// Prints the reference, listens, and serves so many connections.
 fn offer<R: Net<Listener = TcpListener, Stream = TcpStream> + rt::Clock, W: Write, L: Write + Drop>(
     alloc: Global,
@@ -108,20 +145,15 @@ fn offer<R: Net<Listener = TcpListener, Stream = TcpStream> + rt::Clock, W: Writ
 ) -> Result<(), Stop>
     requires { IsServable service.now }
 {
-    let terms = terms_of(service.numbers).ok_or(Stop::BadServiceShare)?;
-    let counter = Counter::new(alloc, terms.start)?;
-    print_address(alloc, service.port, out)?;
-    let Ok(listener) = TcpListener::bind(rt, (Ipv4Addr::LOCALHOST, service.port)) else {
-        return Err(Stop::CannotListen);
+    let Some(terms) = terms_of(service.numbers) else {
+        return Err(Stop::BadServiceShare);
     };
+    let counter = Counter::new(alloc, terms.start)?;
+    let listener = listen(alloc, rt, service.port, out)?;
     let mut clock = SystemClock::new(rt);
-    if service.log {
-        let logged = LoggedCounter::new(alloc, counter, log);
-        let mut server = new_server(alloc, logged, terms, hasher);
-        return serve_logged(alloc, &listener, service, &mut server, &mut clock);
-    }
-    let mut server = new_server(alloc, counter, terms, hasher);
-    serve_plain(alloc, &listener, service, &mut server, &mut clock)
+    serve_counter(
+        alloc, &listener, service, terms, counter, hasher, &mut clock, log,
+    )
 }
 
 /// Serves a counter on 127.0.0.1: prints its reference, listens on the port, serves its connections one after another

@@ -49,7 +49,7 @@ pub const FAILED: u8 = 1;
 pub const REFUSED: u8 = 2;
 
 /// The numbers of a server of one counter.
-#[derive(Clone, Copy, Debug, PartialEq, Eq)]
+#[derive(Clone, Copy)]
 pub struct Numbers {
     /// How many outcomes the server keeps at a time: 1 to 65,536.
     pub capacity: u32,
@@ -76,7 +76,7 @@ impl Numbers {
 }
 
 /// A play on an engine.
-#[derive(Clone, Copy, Debug, PartialEq, Eq)]
+#[derive(Clone, Copy)]
 pub struct EnginePlay {
     /// The numbers of the engine, and of the counter that its owner keeps.
     pub numbers: Numbers,
@@ -98,7 +98,7 @@ impl EnginePlay {
 }
 
 /// How the octets of a stream are given.
-#[derive(Clone, Copy, Debug, PartialEq, Eq)]
+#[derive(Clone, Copy, PartialEq, Eq)]
 pub enum Form {
     /// As hexadecimal digits.
     Digits,
@@ -107,7 +107,7 @@ pub enum Form {
 }
 
 /// Where the octets of a stream are read.
-#[derive(Clone, Copy, Debug, PartialEq, Eq)]
+#[derive(Clone, Copy)]
 pub struct Input<'a> {
     /// The name of a file; without it standard input is read.
     pub file: Option<&'a str>,
@@ -116,7 +116,7 @@ pub struct Input<'a> {
 }
 
 /// A reference that is shown.
-#[derive(Clone, Copy, Debug, PartialEq, Eq)]
+#[derive(Clone, Copy)]
 pub struct IorShow<'a> {
     /// Its text; without one it is that on standard input.
     pub text: Option<&'a str>,
@@ -125,7 +125,7 @@ pub struct IorShow<'a> {
 }
 
 /// What is done over a reader and two writers.
-#[derive(Clone, Copy, Debug, PartialEq, Eq)]
+#[derive(Clone, Copy)]
 pub enum Task<'a> {
     /// Play the script on standard input, on a server of one counter.
     Play(Numbers),
@@ -172,7 +172,7 @@ impl Task<'_> {
 }
 
 /// A service of the counter on 127.0.0.1.
-#[derive(Clone, Copy, Debug, PartialEq, Eq)]
+#[derive(Clone, Copy)]
 pub struct Service {
     /// The TCP port: 1 to 65,535.
     pub port: u16,

@@ -7,7 +7,7 @@
 //! - `CONNECTION HEX`, the octets that were written
 //! - `memory CONNECTION HANDLED ANSWERED` where memory ran out, `given_up CONNECTION ANSWERED` where the owner gave a
 //!   request up, and `full CONNECTION ANSWERED` where it did so since there is no place to park it; these count what
-//!   came after the last request that was asked for or repeated
+//!   came in the event after the last request that was parked, or repeated one that is
 //! - `waits CONNECTION` where a connection is not closed, since somebody waits on it for an outcome
 //!
 //! And for each request that is answered or declined late `CONNECTION HEX` for each reply, or `unanswered NUMBER` where
@@ -137,8 +137,8 @@ fn take_step<W: Write>(alloc: Global, host: &mut Host, line: &Line, out: &mut W)
     Ok(())
 }
 
-/// Plays the lines of a script on a host, and prints what comes of each, up to the first that answers or declines what
-/// is not parked.
+/// Plays the lines of a script on a host, and prints what comes of each, and the total, up to the first that answers or
+/// declines what is not parked.
 fn play_lines<W: Write>(
     alloc: Global,
     host: &mut Host,
@@ -151,6 +151,7 @@ fn play_lines<W: Write>(
     for line in lines {
         take_step(alloc, host, line, out)?;
     }
+    writeln!(out, "total {}", host.owner.counter.total())?;
     Ok(())
 }
 
@@ -166,10 +167,9 @@ pub(crate) fn print_play<W: Write>(
 {
     let mut out = BufWriter::new(alloc, out)?;
     let played = play_lines(alloc, host, lines, &mut out);
-    if played.is_ok() {
-        writeln!(out, "total {}", host.owner.counter.total())?;
-    }
     // (what was played before a bad answer is printed too)
-    out.flush()?;
-    played
+    match out.flush() {
+        Ok(()) => played,
+        Err(error) => Err(Stop::from(error)),
+    }
 }

@@ -19,7 +19,7 @@ use ft_orb::Event;
 use std::alloc::Global;
 
 /// What a line says.
-#[derive(Debug, Drop)]
+#[derive(Drop)]
 pub(crate) enum Step {
     /// Something happens on a connection.
     Happens(Event),
@@ -34,65 +34,83 @@ pub(crate) enum Step {
 }
 
 /// What a line says, and its number, counted from 1.
-#[derive(Debug, Drop)]
+#[derive(Drop)]
 pub(crate) struct Line {
     pub(crate) number: u64,
     pub(crate) step: Step,
 }
 
+/// The system exceptions that the standard has (GIOP 9.4.3).
+const SYSTEM_NAMES: [SystemName; 40] = [
+    SystemName::Marshal,
+    SystemName::BadContext,
+    SystemName::NoResources,
+    SystemName::BadOperation,
+    SystemName::ObjectNotExist,
+    SystemName::Unknown,
+    SystemName::BadParam,
+    SystemName::NoPermission,
+    SystemName::ImpLimit,
+    SystemName::Internal,
+    SystemName::Transient,
+    SystemName::NoMemory,
+    SystemName::CommFailure,
+    SystemName::InvObjref,
+    SystemName::Initialize,
+    SystemName::NoImplement,
+    SystemName::BadTypecode,
+    SystemName::NoResponse,
+    SystemName::PersistStore,
+    SystemName::BadInvOrder,
+    SystemName::FreeMem,
+    SystemName::InvIdent,
+    SystemName::InvFlag,
+    SystemName::IntfRepos,
+    SystemName::ObjAdapter,
+    SystemName::DataConversion,
+    SystemName::TransactionRequired,
+    SystemName::TransactionRolledback,
+    SystemName::InvalidTransaction,
+    SystemName::InvPolicy,
+    SystemName::CodesetIncompatible,
+    SystemName::Rebind,
+    SystemName::Timeout,
+    SystemName::TransactionUnavailable,
+    SystemName::TransactionMode,
+    SystemName::BadQos,
+    SystemName::InvalidActivity,
+    SystemName::ActivityCompleted,
+    SystemName::ActivityRequired,
+    SystemName::ThreadCancelled,
+];
+
+/// Whether a word is a system exception's name, as its repository id has it.
+fn is_name_of(word: &str, exception: SystemName) -> bool {
+    let id = exception.repository_id();
+    match id.strip_prefix(b"IDL:omg.org/CORBA/") {
+        Some(rest) => rest.strip_suffix(b":1.0") == Some(word.as_bytes()),
+        None => false,
+    }
+}
+
 /// The system exception of a name.
 fn system_name(word: &str) -> Result<SystemName, EventError> {
-    match word {
-        "MARSHAL" => Ok(SystemName::Marshal),
-        "BAD_CONTEXT" => Ok(SystemName::BadContext),
-        "NO_RESOURCES" => Ok(SystemName::NoResources),
-        "BAD_OPERATION" => Ok(SystemName::BadOperation),
-        "OBJECT_NOT_EXIST" => Ok(SystemName::ObjectNotExist),
-        "UNKNOWN" => Ok(SystemName::Unknown),
-        "BAD_PARAM" => Ok(SystemName::BadParam),
-        "NO_PERMISSION" => Ok(SystemName::NoPermission),
-        "IMP_LIMIT" => Ok(SystemName::ImpLimit),
-        "INTERNAL" => Ok(SystemName::Internal),
-        "TRANSIENT" => Ok(SystemName::Transient),
-        "NO_MEMORY" => Ok(SystemName::NoMemory),
-        "COMM_FAILURE" => Ok(SystemName::CommFailure),
-        "INV_OBJREF" => Ok(SystemName::InvObjref),
-        "INITIALIZE" => Ok(SystemName::Initialize),
-        "NO_IMPLEMENT" => Ok(SystemName::NoImplement),
-        "BAD_TYPECODE" => Ok(SystemName::BadTypecode),
-        "NO_RESPONSE" => Ok(SystemName::NoResponse),
-        "PERSIST_STORE" => Ok(SystemName::PersistStore),
-        "BAD_INV_ORDER" => Ok(SystemName::BadInvOrder),
-        "FREE_MEM" => Ok(SystemName::FreeMem),
-        "INV_IDENT" => Ok(SystemName::InvIdent),
-        "INV_FLAG" => Ok(SystemName::InvFlag),
-        "INTF_REPOS" => Ok(SystemName::IntfRepos),
-        "OBJ_ADAPTER" => Ok(SystemName::ObjAdapter),
-        "DATA_CONVERSION" => Ok(SystemName::DataConversion),
-        "TRANSACTION_REQUIRED" => Ok(SystemName::TransactionRequired),
-        "TRANSACTION_ROLLEDBACK" => Ok(SystemName::TransactionRolledback),
-        "INVALID_TRANSACTION" => Ok(SystemName::InvalidTransaction),
-        "INV_POLICY" => Ok(SystemName::InvPolicy),
-        "CODESET_INCOMPATIBLE" => Ok(SystemName::CodesetIncompatible),
-        "REBIND" => Ok(SystemName::Rebind),
-        "TIMEOUT" => Ok(SystemName::Timeout),
-        "TRANSACTION_UNAVAILABLE" => Ok(SystemName::TransactionUnavailable),
-        "TRANSACTION_MODE" => Ok(SystemName::TransactionMode),
-        "BAD_QOS" => Ok(SystemName::BadQos),
-        "INVALID_ACTIVITY" => Ok(SystemName::InvalidActivity),
-        "ACTIVITY_COMPLETED" => Ok(SystemName::ActivityCompleted),
-        "ACTIVITY_REQUIRED" => Ok(SystemName::ActivityRequired),
-        "THREAD_CANCELLED" => Ok(SystemName::ThreadCancelled),
-        _ => Err(EventError::Bad),
+    for exception in &SYSTEM_NAMES {
+        if is_name_of(word, *exception) {
+            return Ok(*exception);
+        }
     }
+    Err(EventError::Bad)
 }
 
 /// The system exception in the words `system NAME MINOR`.
 fn system_in(words: &str) -> Result<Manner, EventError> {
     let words = words.strip_prefix("system ").ok_or(EventError::Bad)?;
     let (name, minor) = words.split_once(' ').ok_or(EventError::Bad)?;
-    let minor = u32::try_from(decimal(minor)?).map_err(|_| EventError::Bad)?;
-    Ok(Manner::System(system_name(name)?, minor))
+    match u32::try_from(decimal(minor)?) {
+        Ok(minor) => Ok(Manner::System(system_name(name)?, minor)),
+        Err(_) => Err(EventError::Bad),
+    }
 }
 
 /// How the owner answers, in the words of a line.
@@ -135,9 +153,10 @@ fn put_line(
         return Ok(());
     }
     let step = step_in(alloc, line)?;
-    lines
-        .push(Line { number, step })
-        .map_err(|_| EventError::Memory)
+    match lines.push(Line { number, step }) {
+        Ok(()) => Ok(()),
+        Err(_) => Err(EventError::Memory),
+    }
 }
 
 /// What the lines of a script say, in order. Which lines are passed over, and how a line ends, is as in a script of

@@ -22,7 +22,7 @@ use std::io;
 use std::io::{BufWriter, Write};
 
 /// What is printed of a stream.
-#[derive(Clone, Copy, Debug, PartialEq, Eq)]
+#[derive(Clone, Copy)]
 pub enum Detail {
     /// The lines of each message, and how the stream ends.
     Messages,
@@ -31,7 +31,7 @@ pub enum Detail {
 }
 
 /// How a stream ends.
-#[derive(Clone, Copy, Debug, PartialEq, Eq)]
+#[derive(Clone, Copy)]
 pub enum Ending {
     /// After its last message, with nothing left.
     Clean,
@@ -43,7 +43,7 @@ pub enum Ending {
 }
 
 /// How many messages a stream has before its end, and how it ends.
-#[derive(Clone, Copy, Debug, PartialEq, Eq)]
+#[derive(Clone, Copy)]
 pub struct Summary {
     pub messages: usize,
     pub ending: Ending,
@@ -158,7 +158,7 @@ pub fn show_octets<W: Write>(
     let summary = read_stream(alloc, limits, octets, detail, &mut out)?;
     print_summary(summary, &mut out)?;
     out.flush()?;
-    Ok(summary.ending == Ending::Clean)
+    Ok(matches!(summary.ending, Ending::Clean))
 }
 
 /// The same of the octets that a text gives in digits.
@@ -171,6 +171,8 @@ pub fn show_stream<W: Write>(
 ) -> Result<bool, Stop>
     ensures { IfOk result (λ ends_well. (s : List ℕ) × (octets_in text.now ≡ Ok s) × (IsTrue ends_well ↔ EndsWell limits s)) }
 {
-    let octets = octets_of(alloc, text).map_err(|error| stop_in(text, error))?;
-    show_octets(alloc, limits, octets.as_slice(), detail, out)
+    match octets_of(alloc, text) {
+        Ok(octets) => show_octets(alloc, limits, octets.as_slice(), detail, out),
+        Err(error) => Err(stop_in(text, error)),
+    }
 }

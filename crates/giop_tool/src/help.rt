@@ -1,10 +1,7 @@
 //! The texts of the program's help: what each subcommand is for, what goes in, what its lines mean, and an example.
 
-use giop_run::{
-    CAPACITY, JOINED, LEAST_LIMIT, LIMIT, MOST_CONNECTIONS, MOST_LIMIT, MOST_OUTCOMES,
-    MOST_PARTIALS, MOST_PLACES, PARKED, PARTIALS, START,
-};
-use giop_trace::KEYS;
+use crate::options::{Told, told_options};
+use giop_run::{LIMIT, PARTIALS};
 use std::alloc::{AllocError, Global};
 
 /// The version that `giop --version` prints.
@@ -25,78 +22,8 @@ Documents, by their paths in the repository:
   docs/EMBEDDING.md  the same engine from C, C++, Python and Rust
   docs/giop.1      this help as a manual page";
 
-/// What each subcommand is for.
-pub(crate) const PLAYS: &str =
-    "Plays a script of events on standard input, and prints what is written";
-
-pub(crate) const SHOWS: &str = "Shows the messages of a stream";
-
-pub(crate) const CHECKS: &str = "Prints how a stream ends";
-
-pub(crate) const TRACES: &str =
-    "Shows both directions of connections, with the request that each reply answers";
-
-pub(crate) const IORS: &str = "Shows the type and the profiles of an object reference";
-
-pub(crate) const SERVES: &str = "Serves a counter on 127.0.0.1, and prints its object reference";
-
-/// The help of what a subcommand that reads a stream takes.
-pub(crate) const FILE: &str = "The file that has the stream, or - for standard input [default: -]";
-
-pub(crate) const RAW: &str = "Takes the octets as they are, and not as hexadecimal digits";
-
-/// The help of the other options and words that are no numbers in a range.
-pub(crate) const SHARE: &str =
-    "How many of them are kept of one client, 1 to the capacity [default: the capacity]";
-
-pub(crate) const RESUME: &str = "After a fault goes on at the next header of a plausible message";
-
-pub(crate) const JSON: &str = "Prints an object of JSON a line";
-
-pub(crate) const BODIES: &str = "Of packets prints the octets of bodies and contexts too";
-
-pub(crate) const TYPES: &str = "Prints arguments and results by the table of types in this file";
-
-pub(crate) const CLOCK: &str = "Of packets prints the time of UTC, and not that since the first";
-
-pub(crate) const COLOR: &str =
-    "When lines have colours: auto is on a terminal, unless NO_COLOR is set or TERM is dumb [default: auto]";
-
-pub(crate) const OPERATION: &str =
-    "Only requests of this operation, and what answers or cancels them";
-
-pub(crate) const OBJECT: &str =
-    "Only requests for the object of this key, as it is or in hexadecimal digits";
-
-pub(crate) const CLIENT: &str = "Only requests of this client of FT_REQUEST";
-
-pub(crate) const CALL: &str = "Only the request of this number, and those that repeat it";
-
-pub(crate) const SLOWER: &str =
-    "Only requests that were answered so many milliseconds later, or more";
-
-pub(crate) const UNANSWERED: &str = "Only requests that nothing answered";
-
-pub(crate) const FAULTS: &str =
-    "Only requests that a system exception answered, and what is wrong with octets";
-
-pub(crate) const SUMMARY: &str = "Prints counts and latencies of calls, and no messages";
-
-pub(crate) const LOG: &str = "Writes a line for each request on standard error";
-
-pub(crate) const ENGINE: &str =
-    "Plays on an engine, which asks an owner that keeps the counter, and may answer later";
-
-pub(crate) const ASKS: &str = "Prints a line for each request that the engine asks for";
-
-pub(crate) const TEXT: &str =
-    "IOR: and hexadecimal digits, or a URL corbaloc:, or - for standard input [default: -]";
-
-pub(crate) const NAMES: &str =
-    "Shows it to a person: names of components, and the code sets, ORB and addresses in them";
-
 /// What the help of `giop play` says after its options.
-pub(crate) const PLAY: &str =
+const PLAY: &str =
     "Input: a line for each event, `open C`, `bytes C M HEX`, `close C` or `lost C`, where C is the number
 of a connection, M a moment in units of 100 ns, and HEX octets in hexadecimal digits. Numbers have decimal
 digits alone. Empty lines and lines that begin with # are left out.
@@ -136,7 +63,7 @@ These lines are printed before what an event writes:
   parked N C KEY OPERATION  It is parked, under number N
   repeat C                  What is parked comes again: it waits too, or wants no reply, or is told TRANSIENT with
                             COMPLETED_MAYBE, where as many wait as may, on connections that go on
-and these after it; C is lost, and K and H count requests and locates on C since the last of the lines above:
+and these after it; C is lost, and K and H count requests and locates on C since the event's last `parked` or `repeat`:
   given_up C K              A request is given up; the K before it are answered
   full C K                  The same, since no more may be parked
   memory C H K              An allocation failed; of what the event brought H count, and K are answered
@@ -166,7 +93,7 @@ Example:
   end 1 messages";
 
 /// What the help of `giop trace` says after its options.
-pub(crate) const TRACE: &str =
+const TRACE: &str =
     "Input: what `tshark -r CAPTURE -q -z follow,tcp,raw,N` prints, with N from 0 for each connection, one after
 another: lines of hexadecimal digits, those that begin with a tab of the side that accepted the connection.
 Other lines are passed over. With --raw octets of one direction. A message has at most 1,048,576 octets. Or what
@@ -193,7 +120,7 @@ Example:
 Exit status: 0 where each direction ends after a message with nothing left, 2 where FILE can't be read, else 1";
 
 /// What the help of `giop ior` says after its options.
-pub(crate) const IOR: &str =
+const IOR: &str =
     "Lines: the type, and for each profile its version of IIOP, host, port and object key, with a line for each
 tagged component; `nil` for the nil reference.
 
@@ -207,7 +134,7 @@ Example:
 Exit status: 0 where TEXT is a reference or such a URL, else 1";
 
 /// What the help of `giop serve` says after its options.
-pub(crate) const SERVE: &str =
+const SERVE: &str =
     "It listens on 127.0.0.1 once the reference is printed, serves each connection to its end, however that
 comes, and stops after the last one. The object is the counter of `giop play`.
 
@@ -223,38 +150,56 @@ Example:
 
 Exit status: 0 where all connections were served, else 1";
 
-/// The texts that have numbers.
-#[derive(Drop)]
-pub(crate) struct Texts {
-    pub(crate) capacity: String,
-    pub(crate) start: String,
-    pub(crate) limit: String,
-    pub(crate) partials: String,
-    pub(crate) parked: String,
-    pub(crate) joined: String,
-    pub(crate) port: String,
-    pub(crate) connections: String,
-    pub(crate) timeout: String,
-    pub(crate) keys: String,
-    pub(crate) show: String,
-    pub(crate) check: String,
+/// What stands after the options in the help of a subcommand.
+#[derive(Clone, Copy)]
+enum After {
+    /// This text.
+    Text(&'static str),
+    /// What goes into a subcommand that reads a stream, then this text, and the exit status.
+    Stream(&'static str),
 }
 
-/// The help of an option whose number lies in a range.
-fn ranged(alloc: Global, what: &str, least: u64, most: u64) -> Result<String, AllocError> {
-    format!(in alloc; "{what}, {least} to {most}")
+/// A subcommand.
+pub(crate) struct Subcommand {
+    pub(crate) name: &'static str,
+    /// What it is for.
+    pub(crate) about: &'static str,
+    after: After,
 }
 
-/// The same of an option that may be missing.
-fn optional(
-    alloc: Global,
-    what: &str,
-    least: u64,
-    most: u64,
-    default: u64,
-) -> Result<String, AllocError> {
-    format!(in alloc; "{what}, {least} to {most} [default: {default}]")
-}
+/// The subcommands, in the order in which the help has them.
+static SUBCOMMANDS: [Subcommand; 6] = [
+    Subcommand {
+        name: "play",
+        about: "Plays a script of events on standard input, and prints what is written",
+        after: After::Text(PLAY),
+    },
+    Subcommand {
+        name: "show",
+        about: "Shows the messages of a stream",
+        after: After::Stream(SHOW_LINES),
+    },
+    Subcommand {
+        name: "check",
+        about: "Prints how a stream ends",
+        after: After::Stream(CHECK_LINES),
+    },
+    Subcommand {
+        name: "trace",
+        about: "Shows both directions of connections, with the request that each reply answers",
+        after: After::Text(TRACE),
+    },
+    Subcommand {
+        name: "ior",
+        about: "Shows the type and the profiles of an object reference",
+        after: After::Text(IOR),
+    },
+    Subcommand {
+        name: "serve",
+        about: "Serves a counter on 127.0.0.1, and prints its object reference",
+        after: After::Text(SERVE),
+    },
+];
 
 /// What goes into a subcommand that reads a stream, and then its lines.
 fn stream_text(alloc: Global, lines: &str) -> Result<String, AllocError> {
@@ -269,57 +214,47 @@ Exit status: 0 where the stream ends after a message with nothing left, 2 where 
     )
 }
 
+/// A subcommand, with what stands after the options in its help.
+#[derive(Drop)]
+pub(crate) struct Page {
+    pub(crate) subcommand: &'static Subcommand,
+    pub(crate) after: String,
+}
+
+/// What stands after the options in the help of a subcommand.
+fn after_of(alloc: Global, subcommand: &Subcommand) -> Result<String, AllocError> {
+    match subcommand.after {
+        After::Text(text) => String::from_str(alloc, text),
+        After::Stream(lines) => stream_text(alloc, lines),
+    }
+}
+
+/// All subcommands.
+fn pages(alloc: Global) -> Result<Vec<Page>, AllocError> {
+    let mut all = Vec::new(alloc);
+    for subcommand in &SUBCOMMANDS {
+        let after = after_of(alloc, subcommand)?;
+        if all.push(Page { subcommand, after }).is_err() {
+            return Err(AllocError);
+        }
+    }
+    Ok(all)
+}
+
+/// The texts of the help, with the numbers that the parser keeps to.
+#[derive(Drop)]
+pub(crate) struct Texts {
+    pub(crate) options: Vec<Told>,
+    pub(crate) pages: Vec<Page>,
+}
+
 impl Texts {
-    /// The texts, with the numbers that the parser keeps to.
+    /// The texts of all options and subcommands.
     pub(crate) fn new(alloc: Global) -> Result<Texts, AllocError> {
-        let (outcomes, octets, messages) = (
-            "How many outcomes of requests are kept at a time",
-            "How many octets a message may have",
-            "How many messages may be partial at a time on a connection",
-        );
-        let (parked, joined) = (
-            "With --engine: how many requests may be parked at a time",
-            "With --engine: how many repeats may wait for the outcome of one, beside the first",
-        );
-        let most_limit = u64::from(MOST_LIMIT);
-        let (least_limit, limit) = (u64::from(LEAST_LIMIT), u64::from(LIMIT));
-        let most_partials = u64::from(MOST_PARTIALS);
-        let most_outcomes = u64::from(MOST_OUTCOMES);
+        let options = told_options(alloc)?;
         Ok(Texts {
-            capacity: optional(alloc, outcomes, 1, most_outcomes, u64::from(CAPACITY))?,
-            start: optional(
-                alloc,
-                "The counter's total at the beginning",
-                0,
-                i64::MAX as u64,
-                START as u64,
-            )?,
-            limit: optional(alloc, octets, least_limit, most_limit, limit)?,
-            partials: optional(alloc, messages, 1, most_partials, u64::from(PARTIALS))?,
-            parked: optional(alloc, parked, 0, u64::from(MOST_PLACES), u64::from(PARKED))?,
-            joined: optional(alloc, joined, 0, u64::from(MOST_PLACES), u64::from(JOINED))?,
-            port: ranged(alloc, "The TCP port to listen on", 1, u64::from(u16::MAX))?,
-            connections: ranged(
-                alloc,
-                "How many connections are served, one after another",
-                1,
-                u64::from(MOST_CONNECTIONS),
-            )?,
-            timeout: ranged(
-                alloc,
-                "After how many seconds a read or a write fails, and with it its connection",
-                1,
-                u64::from(u32::MAX),
-            )?,
-            keys: optional(
-                alloc,
-                "How many keys of FT_REQUEST are remembered at least",
-                1,
-                u64::from(u32::MAX),
-                u64::from(KEYS),
-            )?,
-            show: stream_text(alloc, SHOW_LINES)?,
-            check: stream_text(alloc, CHECK_LINES)?,
+            options,
+            pages: pages(alloc)?,
         })
     }
 }

@@ -4,24 +4,21 @@ ghost use Rattle.std.specs.Prelude.{◌↔◌, IfErr, IfOk, IsTrue};
 ghost use Rattle.giop_tool.specs.Settings.{IsMeant, IsOfWords};
 
 use crate::help;
-use crate::help::Texts;
-use crate::options::{
-    flag, with_choice, with_engine, with_number, with_numbers, with_required, word_option,
-};
+use crate::help::{Page, Texts};
+use crate::options::with_options;
 use crate::tracing::{Colouring, Tracing};
-use clap::builder::ValueParser;
 use clap::error::ErrorKind;
-use clap::{Arg, ArgAction, ArgMatches, Command};
+use clap::{ArgMatches, Command};
 use giop_lines::Format;
 use giop_run::{
-    CAPACITY, EnginePlay, Form, Input, IorShow, JOINED, LIMIT, MOST_CONNECTIONS, Numbers, PARKED,
-    PARTIALS, START, Service, Task,
+    CAPACITY, EnginePlay, Form, Input, IorShow, JOINED, LIMIT, Numbers, PARKED, PARTIALS, START,
+    Service, Task,
 };
 use giop_trace::{Choice, KEYS, Options};
 use std::alloc::{AllocError, Global};
 
 /// What the program is to do.
-#[derive(Clone, Copy, Debug, PartialEq, Eq)]
+#[derive(Clone, Copy)]
 pub(crate) enum Setting<'a> {
     /// A task on the standard streams.
     Run(Task<'a>),
@@ -45,7 +42,7 @@ impl Setting<'_> {
 }
 
 /// Why the words were refused.
-#[derive(Debug, Drop)]
+#[derive(Drop)]
 pub(crate) enum SettingError {
     /// The words are not those of the program, or ask for help or the version.
     Words(clap::Error),
@@ -55,90 +52,31 @@ pub(crate) enum SettingError {
     Memory,
 }
 
-/// `giop play`.
-fn play_command<'a>(alloc: Global, texts: &'a Texts) -> Result<Command<'a>, AllocError> {
-    let command = Command::new(alloc, "play")
-        .about(help::PLAYS)
-        .after_help(help::PLAY);
-    let command = with_numbers(alloc, texts, command)?;
-    with_engine(alloc, texts, command)
+/// A subcommand without its options.
+fn plain<'a>(alloc: Global, name: &'a str, about: &'a str, after: &'a str) -> Command<'a> {
+    Command::new(alloc, name).about(about).after_help(after)
 }
 
-/// A subcommand that reads a stream.
-fn stream_command<'a>(
+/// A subcommand.
+fn subcommand_of<'a>(
     alloc: Global,
-    name: &'a str,
-    about: &'a str,
-    help: &'a str,
+    texts: &'a Texts,
+    page: &'a Page,
 ) -> Result<Command<'a>, AllocError> {
-    let file = Arg::new(alloc, "FILE")
-        .help(help::FILE)
-        .action(ArgAction::Set);
-    Command::new(alloc, name)
-        .about(about)
-        .after_help(help)
-        .arg(file)?
-        .arg(flag(alloc, "raw", help::RAW))
+    let name = page.subcommand.name;
+    let command = plain(alloc, name, page.subcommand.about, &page.after);
+    with_options(alloc, &texts.options, name, command)
 }
 
-/// `giop show [FILE]`.
-fn show_command<'a>(alloc: Global, texts: &'a Texts) -> Result<Command<'a>, AllocError> {
-    stream_command(alloc, "show", help::SHOWS, &texts.show)
-}
-
-/// `giop check [FILE]`.
-fn check_command<'a>(alloc: Global, texts: &'a Texts) -> Result<Command<'a>, AllocError> {
-    stream_command(alloc, "check", help::CHECKS, &texts.check)
-}
-
-/// When lines may have colours.
-const WHENS: &[&str] = &["auto", "always", "never"];
-
-/// `giop trace [FILE]`.
-fn trace_command<'a>(alloc: Global, texts: &'a Texts) -> Result<Command<'a>, AllocError> {
-    let command = stream_command(alloc, "trace", help::TRACES, help::TRACE)?
-        .arg(flag(alloc, "resume", help::RESUME))?
-        .arg(flag(alloc, "json", help::JSON))?
-        .arg(flag(alloc, "bodies", help::BODIES))?
-        .arg(flag(alloc, "clock", help::CLOCK))?
-        .arg(word_option(alloc, "color", "WHEN", help::COLOR).value_parser(ValueParser::from(
-            WHENS,
-        )))?;
-    let keys = ValueParser::unsigned(1, u64::from(u32::MAX));
-    let command = with_number(alloc, command, "keys", &texts.keys, keys)?.arg(word_option(
-        alloc,
-        "types",
-        "FILE",
-        help::TYPES,
-    ))?;
-    with_choice(alloc, command)
-}
-
-/// `giop ior [TEXT]`.
-fn ior_command<'a>(alloc: Global) -> Result<Command<'a>, AllocError> {
-    let text = Arg::new(alloc, "TEXT")
-        .help(help::TEXT)
-        .action(ArgAction::Set);
-    Command::new(alloc, "ior")
-        .about(help::IORS)
-        .after_help(help::IOR)
-        .arg(text)?
-        .arg(flag(alloc, "names", help::NAMES))
-}
-
-/// `giop serve`.
-fn serve_command<'a>(alloc: Global, texts: &'a Texts) -> Result<Command<'a>, AllocError> {
-    let command = Command::new(alloc, "serve")
-        .about(help::SERVES)
-        .after_help(help::SERVE);
-    let ports = ValueParser::unsigned(1, u64::from(u16::MAX));
-    let command = with_required(alloc, command, "port", &texts.port, ports)?;
-    let counts = ValueParser::unsigned(1, u64::from(MOST_CONNECTIONS));
-    let command = with_required(alloc, command, "connections", &texts.connections, counts)?;
-    let command = with_numbers(alloc, texts, command)?;
-    let seconds = ValueParser::unsigned(1, u64::from(u32::MAX));
-    let command = with_number(alloc, command, "timeout", &texts.timeout, seconds)?;
-    command.arg(flag(alloc, "log", help::LOG))
+/// The command line with a subcommand.
+fn with_subcommand<'a>(
+    alloc: Global,
+    texts: &'a Texts,
+    page: &'a Page,
+    command: Command<'a>,
+) -> Result<Command<'a>, AllocError> {
+    let subcommand = subcommand_of(alloc, texts, page)?;
+    command.subcommand(subcommand)
 }
 
 /// `giop` without a subcommand.
@@ -151,22 +89,13 @@ fn base_command<'a>(alloc: Global) -> Result<Command<'a>, AllocError> {
         .bin_name("giop")
 }
 
-/// With a subcommand.
-fn with<'a>(
-    command: Command<'a>,
-    subcommand: Result<Command<'a>, AllocError>,
-) -> Result<Command<'a>, AllocError> {
-    command.subcommand(subcommand?)
-}
-
 /// The whole command line.
 fn command<'a>(alloc: Global, texts: &'a Texts) -> Result<Command<'a>, AllocError> {
-    let command = with(base_command(alloc)?, play_command(alloc, texts))?;
-    let command = with(command, show_command(alloc, texts))?;
-    let command = with(command, check_command(alloc, texts))?;
-    let command = with(command, trace_command(alloc, texts))?;
-    let command = with(command, ior_command(alloc))?;
-    with(command, serve_command(alloc, texts))
+    let mut command = base_command(alloc)?;
+    for page in &texts.pages {
+        command = with_subcommand(alloc, texts, page, command)?;
+    }
+    Ok(command)
 }
 
 /// The numbers of a server where the words say none.
@@ -329,6 +258,22 @@ fn in_range<'a>(setting: Setting<'a>) -> Result<Setting<'a>, SettingError>
     Ok(setting)
 }
 
+/// What words ask a command line for.
+fn setting_in<'a>(command: Command<'a>, words: &'a [&'a str]) -> Result<Setting<'a>, SettingError>
+    ensures range { IfOk result IsMeant }
+    ensures words { IfErr result IsOfWords }
+{
+    match command.try_get_matches_from(words) {
+        Ok(matches) => in_range(setting_of(&matches)),
+        Err(error) => {
+            if error.kind() == ErrorKind::OutOfMemory {
+                return Err(SettingError::Memory);
+            }
+            Err(SettingError::Words(error))
+        }
+    }
+}
+
 /// What the words after the program's name ask for: the setting, or a text to print. No words ask for
 /// `play`.
 pub(crate) fn settings<'a>(
@@ -339,14 +284,8 @@ pub(crate) fn settings<'a>(
     ensures range { IfOk result IsMeant }
     ensures words { IfErr result IsOfWords }
 {
-    let command = command(alloc, texts).map_err(|_| SettingError::Memory)?;
-    match command.try_get_matches_from(words) {
-        Ok(matches) => in_range(setting_of(&matches)),
-        Err(error) => {
-            if error.kind() == ErrorKind::OutOfMemory {
-                return Err(SettingError::Memory);
-            }
-            Err(SettingError::Words(error))
-        }
+    match command(alloc, texts) {
+        Ok(command) => setting_in(command, words),
+        Err(AllocError) => Err(SettingError::Memory),
     }
 }

@@ -8,7 +8,7 @@ use std::io::IsTerminal;
 use std::{env, fs, io};
 
 /// When lines have colours.
-#[derive(Clone, Copy, Debug, PartialEq, Eq)]
+#[derive(Clone, Copy)]
 pub(crate) enum Colouring {
     /// Where they are printed on a terminal that has colours, unless the environment asks for none.
     Terminal,
@@ -42,7 +42,7 @@ fn is_coloured(rt: &HostRuntime, colouring: Colouring) -> bool {
 }
 
 /// What is asked of a trace, and of which input.
-#[derive(Clone, Copy, Debug, PartialEq, Eq)]
+#[derive(Clone, Copy)]
 pub(crate) struct Tracing<'a> {
     pub(crate) input: Input<'a>,
     /// The file of a table of types.

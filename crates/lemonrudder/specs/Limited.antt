@@ -42,7 +42,7 @@ set_to what value x =
     else (if what == 5 then if_within 0 4294967295 value (record x { parked = value })
     else (if what == 6 then if_within 0 4294967295 value (record x { parked_of = value })
     else (if what == 7 then if_within 0 4294967295 value (record x { joined = value })
-    else (if what == 8 then Some (record x { due = value })
+    else (if what == 8 then (if nat_le 1 value then Some (record x { due = value }) else None)
     else (if what == 9 then Some (record x { client_id = value })
     else (if what == 10 then option_map (λ first. record x { first = first }) (truth_named value)
     else None)))))))))

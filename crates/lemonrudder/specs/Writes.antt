@@ -5,7 +5,7 @@ use Rattle.cdr_core.specs.declared.order.Order.TheVariants.{Big}
 use Rattle.cdr_core.specs.Spelling.{IsClean}
 use Rattle.cdr_core.specs.Value.{Value, no_values}
 use Rattle.giop_core.specs.Content.{by_key}
-use Rattle.giop_core.specs.Written.{CanAsk, behind_header, cancel_fields, ft_octets, locate_reply_fields, locate_request_fields, locate_statuses, message_octets, octets_body, reply_fields, reply_statuses, request_fields}
+use Rattle.giop_core.specs.Written.{CanAsk, behind_header, cancel_fields, ft_octets, locate_reply_fields, locate_request_fields, message_octets, octets_body, reply_fields, reply_statuses, request_fields}
 use Rattle.giop_core.specs.declared.header.MessageKind.{MessageKind}
 use Rattle.giop_core.specs.declared.header.MessageKind.TheVariants as kind
 use Rattle.giop_core.specs.declared.header.Version.{Version}
@@ -118,9 +118,9 @@ cancel v o id = Fits (message_octets v kind.CancelRequest o (behind_header v kin
 abbrev pub locate_request : Version → Order → (id : ℕ) → List ℕ → Writing
 locate_request v o id key = message v kind.LocateRequest o (behind_header v kind.LocateRequest o (locate_request_fields v id (by_key key)) no_values)
 
--- a LocateReply without a body
+-- a LocateReply without a body, which says that the object is unknown, or here
 abbrev pub locate_reply : Version → Order → (id status : ℕ) → Writing
-locate_reply v o id status = checked (status < locate_statuses v) refusal.Range (Fits (message_octets v kind.LocateReply o (behind_header v kind.LocateReply o (locate_reply_fields id status) no_values)))
+locate_reply v o id status = checked (status < 2) refusal.Range (Fits (message_octets v kind.LocateReply o (behind_header v kind.LocateReply o (locate_reply_fields id status) no_values)))
 
 -- a message that has nothing after its header
 abbrev pub bare : MessageKind → Writing

@@ -55,7 +55,7 @@ fn lay(room: &mut [u8], zeros: usize, head: &[u8], octets: &[u8], tail: &[u8])
 
 impl Place {
     /// A cursor at the place.
-    pub fn cursor<'o>(&self, octets: &'o [u8]) -> Result<Cursor<'o>, Refusal>
+    pub(crate) fn cursor<'o>(&self, octets: &'o [u8]) -> Result<Cursor<'o>, Refusal>
         ensures { result ≡ position_at self.now octets.now }
     {
         let order = order_of(self.order)?;
@@ -67,7 +67,7 @@ impl Place {
     }
 
     /// Moves to where a cursor in these octets stands.
-    pub fn follow(&mut self, octets: &[u8], cursor: &Cursor<'_>)
+    pub(crate) fn follow(&mut self, octets: &[u8], cursor: &Cursor<'_>)
         ensures { self.new ≡ before self.old octets.now cursor.now.rest }
     {
         self.next = count_of(octets).saturating_sub(count_of(cursor.rest()));
@@ -83,7 +83,7 @@ impl Place {
     }
 
     /// Reads a sequence of octets: the index of the first, and the octets.
-    pub fn octets<'o>(&mut self, octets: &'o [u8]) -> Result<(u64, &'o [u8]), Refusal>
+    pub(crate) fn octets<'o>(&mut self, octets: &'o [u8]) -> Result<(u64, &'o [u8]), Refusal>
         ensures { Lends value.octets (read_at (value_at raw) self.old octets.now) octets.now self.old self.new result }
     {
         read_is_spelled();
@@ -95,7 +95,7 @@ impl Place {
     }
 
     /// Reads a string: the index of its first octet, and its octets without the NUL.
-    pub fn string<'o>(&mut self, octets: &'o [u8]) -> Result<(u64, &'o [u8]), Refusal>
+    pub(crate) fn string<'o>(&mut self, octets: &'o [u8]) -> Result<(u64, &'o [u8]), Refusal>
         ensures { Lends value.string (read_at (value_at text) self.old octets.now) octets.now self.old self.new result }
     {
         read_is_spelled();
@@ -107,7 +107,7 @@ impl Place {
     }
 
     /// The place in an encapsulation after its octet of the byte order.
-    pub fn inner(order: Order) -> Place
+    pub(crate) fn inner(order: Order) -> Place
         ensures { result ≡ inside order }
     {
         Place {
@@ -119,7 +119,7 @@ impl Place {
     }
 
     /// Writes octets at a place divisible by a size, with zeros before.
-    pub fn put(
+    pub(crate) fn put(
         &mut self,
         room: &mut [u8],
         size: u64,
@@ -149,7 +149,12 @@ impl Place {
     }
 
     /// Writes a length and as many octets, the last of which is a NUL where one is wanted.
-    pub fn put_all(&mut self, room: &mut [u8], octets: &[u8], nul: &[u8]) -> Result<u64, Refusal>
+    pub(crate) fn put_all(
+        &mut self,
+        room: &mut [u8],
+        octets: &[u8],
+        nul: &[u8],
+    ) -> Result<u64, Refusal>
         ensures { Writes (put_counted octets.now nul.now self.old room.old) self.old self.new room.old room.new result }
     {
         let order = order_of(self.order)?;
@@ -161,7 +166,7 @@ impl Place {
     }
 
     /// Writes a string, with its NUL.
-    pub fn put_string(&mut self, room: &mut [u8], text: &[u8]) -> Result<u64, Refusal>
+    pub(crate) fn put_string(&mut self, room: &mut [u8], text: &[u8]) -> Result<u64, Refusal>
         ensures clean { IsClean text.now → Writes (put_counted text.now (0 ∷ []) self.old room.old) self.old self.new room.old room.new result }
         ensures unclean { ¬ (IsClean text.now) → Writes (Err Refusal.Text) self.old self.new room.old room.new result }
     {
@@ -172,7 +177,12 @@ impl Place {
     }
 
     /// Writes a number of 1, 2, 4 or 8 octets, which are given in both orders.
-    pub fn put_number(&mut self, room: &mut [u8], big: &[u8], little: &[u8]) -> Result<u64, Refusal>
+    pub(crate) fn put_number(
+        &mut self,
+        room: &mut [u8],
+        big: &[u8],
+        little: &[u8],
+    ) -> Result<u64, Refusal>
         requires { (0 < length big.now) × ((length big.now ≤ 8) × (length little.now ≡ length big.now)) }
         ensures { let size = length big.now in
             Writes (by_order (order_named self.old.order) (written self.old (padded self.old size big.now) room.old) (written self.old (padded self.old size little.now) room.old))

@@ -4,34 +4,32 @@ ghost use Rattle.std.specs.Prelude.{◌≡◌, None};
 ghost use Rattle.lemonrudder.specs.Moments.{moment_of};
 ghost use Rattle.lemonrudder.specs.Slots.{held_in};
 
-mod assembler;
-mod catalogue;
-mod cdr;
-mod client;
-mod ior;
-mod leaving;
-mod looking;
-mod message;
-mod parking;
-mod raw_call;
-mod replying;
-mod server;
+pub mod assembler;
+pub mod catalogue;
+pub mod cdr;
+pub mod client;
+pub mod ior;
+pub mod leaving;
+pub mod looking;
+pub mod message;
+pub mod parking;
+pub mod raw_call;
+pub mod replying;
+pub mod server;
 
 use crate::slot::Slot;
 use giop_core::UNIX_EPOCH;
 use std::alloc::Global;
 
 /// The version of the library: major * 65536 + minor * 256 + patch.
-#[unsafe(no_mangle)]
-pub extern "C" fn lr_version() -> u32
+pub fn lr_version() -> u32
     ensures { result ≡ 512 }
 {
     512
 }
 
 /// Empties a slot of any kind, and frees what it held.
-#[unsafe(no_mangle)]
-pub extern "C" fn lr_close(alloc: Global, slot: &mut Slot)
+pub fn lr_close(alloc: Global, slot: &mut Slot)
     ensures { held_in slot.new ≡ None }
 {
     let _object = slot.take(alloc);
@@ -41,8 +39,7 @@ pub extern "C" fn lr_close(alloc: Global, slot: &mut Slot)
 const UNITS: u64 = 10_000_000;
 
 /// The moment of seconds and nanoseconds since 1970. The greatest, where it lies beyond.
-#[unsafe(no_mangle)]
-pub extern "C" fn lr_moment(seconds: u64, nanoseconds: u32) -> u64
+pub fn lr_moment(seconds: u64, nanoseconds: u32) -> u64
     ensures { result ≡ moment_of seconds nanoseconds }
 {
     seconds

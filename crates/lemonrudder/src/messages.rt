@@ -20,6 +20,9 @@ use giop_core::{
 };
 use std::alloc::Global;
 
+/// How many statuses of a LocateReply have no body, from 0 on: the object is unknown, or here (GIOP 9.4.6).
+const WITHOUT_BODY: u32 = 2;
+
 /// What a Request says, but its version and order.
 #[derive(Clone, Copy)]
 pub struct Asking<'a> {
@@ -258,7 +261,7 @@ impl Manner {
     pub fn locate_reply(self, request_id: u32, status: u32, room: &mut [u8]) -> Result<u64, Refusal>
         ensures { locate_reply self.version self.order request_id status room.old room.new result }
     {
-        if !self.version.has_locate_status(status) {
+        if status >= WITHOUT_BODY {
             return Err(Refusal::Range);
         }
         let octets = locate_reply_octets(self.version, self.order, request_id, status);

@@ -45,6 +45,17 @@ pub fn in_32_bits(value: u64) -> Result<u32, Refusal>
     u32::try_from(value).map_err(|_| Refusal::Range)
 }
 
+/// A number that is not to be 0.
+pub fn at_least_1(value: u64) -> Result<u64, Refusal>
+    ensures ok { IfOk result (λ n. (n ≡ value) × (1 ≤ value)) }
+    ensures err { IfErr result (λ e. (e ≡ Refusal.Range) × (value ≡ 0)) }
+{
+    if value == 0 {
+        return Err(Refusal::Range);
+    }
+    Ok(value)
+}
+
 impl Terms {
     /// The limits of a server where nothing is set.
     pub fn new(seed: Seed, hasher: RandomState) -> Terms
@@ -85,7 +96,7 @@ impl Terms {
             5 => terms.places.parked = in_32_bits(value)?,
             6 => terms.places.of_one = in_32_bits(value)?,
             7 => terms.places.joined = in_32_bits(value)?,
-            8 => terms.due = value as usize,
+            8 => terms.due = at_least_1(value)? as usize,
             9 => terms.longest = value as usize,
             10 => terms.first = truth_of(value)?,
             _ => return Err(Refusal::Range),

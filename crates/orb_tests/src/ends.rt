@@ -1,9 +1,9 @@
 //! How a connection over a wire ends, and what was sent on it then.
 
-use crate::Terms;
 use crate::messages::{ADD, AGAIN, BROKEN, CLOSE, ERROR, EXPIRED, HERE, LOCATE, SEVEN};
 use crate::visits::{Course, Wanted, comes, is_wanted, new_server, visit_at};
 use ft_orb::StreamEnd;
+use memory_wire::Terms;
 use std::alloc::Global;
 use std::hash::RandomState;
 use std::test::Fail;

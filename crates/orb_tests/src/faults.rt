@@ -1,9 +1,9 @@
 //! Each call of a wire failing in turn: what was performed stands, and comes again on the next connection.
 
-use crate::Terms;
 use crate::messages::{ADD, AGAIN, SEVEN, SEVEN_AGAIN};
 use crate::visits::{Wanted, comes, new_server};
 use ft_orb::StreamEnd;
+use memory_wire::Terms;
 use std::alloc::Global;
 use std::hash::RandomState;
 use std::test::Fail;

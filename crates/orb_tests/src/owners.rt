@@ -2,13 +2,13 @@
 
 use crate::messages::{ADD, AGAIN, SEVEN, SEVEN_AGAIN, UNFIT};
 use crate::visits::{Course, Wanted, course_of, is_wanted};
-use crate::{MemoryClock, MemoryWire, Terms};
 use cdr_core::Val;
 use counter::Counter;
 use ft_log::{Outcome, Retention};
 use ft_orb::{Asked, Engine, Performer, Places, StreamEnd, serve_engine};
 use giop_frames::Limits;
 use giop_run::CAPACITY;
+use memory_wire::{MemoryClock, MemoryWire, Terms};
 use std::alloc::{AllocError, Global};
 use std::hash::RandomState;
 use std::test::Fail;

@@ -1,11 +1,11 @@
 //! A connection that is served over a wire in memory.
 
-use crate::{Act, MemoryClock, MemoryWire, Terms};
 use counter::Counter;
 use ft_log::Retention;
 use ft_orb::{Server, StreamEnd, serve_stream};
 use giop_frames::Limits;
 use giop_run::CAPACITY;
+use memory_wire::{Act, MemoryClock, MemoryWire, Terms};
 use std::alloc::{AllocError, Global};
 use std::hash::RandomState;
 use std::test::Fail;

@@ -7,7 +7,6 @@
 //! tests/schedules.py compares these lines with those of a model.
 #![tactic(auto)]
 
-mod forwarding;
 mod lines;
 mod playing;
 mod run;

@@ -3,10 +3,9 @@
 ghost use Rattle.std.specs.List.{AllByRecursion};
 ghost use Rattle.ft_ends.specs.Playing.{IsCallable};
 
-use crate::forwarding::Forwarding;
 use crate::schedule::Terms;
 use cdr_core::Order;
-use counter::Counter;
+use counter::{Counter, Forwarding};
 use ft_client::{Ended, FtClient, ReplyBody};
 use ft_ends::{Step, both_ends};
 use ft_log::Retention;

@@ -132,12 +132,17 @@ fn balance_types(alloc: Global) -> Result<Signature, AllocError> {
     })
 }
 
+/// Adds the bank's key, its operations and their types.
+fn add_bank(alloc: Global, interfaces: &mut Interfaces) -> Result<(), BankingError> {
+    interfaces.add_object(b"bank")?;
+    interfaces.add_operation(b"bank", b"deposit", deposit_types(alloc)?)?;
+    Ok(interfaces.add_operation(b"bank", b"balance", balance_types(alloc)?)?)
+}
+
 /// The bank's key, its operations and their types.
 pub(crate) fn bank_interfaces(alloc: Global) -> Result<Interfaces, BankingError> {
     let mut interfaces = Interfaces::new(alloc);
-    interfaces.add_object(b"bank")?;
-    interfaces.add_operation(b"bank", b"deposit", deposit_types(alloc)?)?;
-    interfaces.add_operation(b"bank", b"balance", balance_types(alloc)?)?;
+    add_bank(alloc, &mut interfaces)?;
     Ok(interfaces)
 }
 
@@ -233,6 +238,25 @@ pub(crate) fn serve_events<C: Catalogue + Drop, O: Performer>(
     Ok(())
 }
 
+/// Serves a bank by a new engine: appends what is to be sent for each event.
+fn serve_before(
+    alloc: Global,
+    hasher: RandomState,
+    limits: Limits,
+    bank: &mut Bank,
+    events: &[Event],
+    out: &mut Vec<Vec<u8>>,
+) -> Result<(), BankingError> {
+    let interfaces = bank_interfaces(alloc)?;
+    // at most 100 outcomes are kept, at most 100 of each client
+    let retention = Retention {
+        capacity: 100,
+        share: 100,
+    };
+    let mut engine = Engine::new(alloc, interfaces, limits, retention, Places::none(), hasher);
+    serve_events(alloc, &mut engine, bank, events, out)
+}
+
 /// Serves a new bank: appends what is to be sent for each event, and gives the bank after the last.
 pub fn serve_bank(
     alloc: Global,
@@ -242,19 +266,6 @@ pub fn serve_bank(
     out: &mut Vec<Vec<u8>>,
 ) -> Result<Bank, BankingError> {
     let mut bank = Bank::new(alloc);
-    // at most 100 outcomes are kept, at most 100 of each client
-    let retention = Retention {
-        capacity: 100,
-        share: 100,
-    };
-    let mut engine = Engine::new(
-        alloc,
-        bank_interfaces(alloc)?,
-        limits,
-        retention,
-        Places::none(),
-        hasher,
-    );
-    serve_events(alloc, &mut engine, &mut bank, events, out)?;
+    serve_before(alloc, hasher, limits, &mut bank, events, out)?;
     Ok(bank)
 }

@@ -103,14 +103,14 @@ pub fn ticket_at_cut(
     ensures once { OnOk result (ActsOnce tickets_meaning (tickets_made limits) (newcomers limits) (world_at limits request reply)) }
 {
     ft_ends::laws::calls_are_of_steps();
+    let steps = steps_at_cut(alloc, request, reply)?;
+    let mut clients = one_client(alloc, limits)?;
     let tickets = Tickets::new(alloc)?;
     let retention = Retention {
         capacity: 100,
         share: 10,
     };
     let mut server = Server::new(alloc, tickets, limits, retention, hasher);
-    let mut clients = one_client(alloc, limits)?;
-    let steps = steps_at_cut(alloc, request, reply)?;
     let mut completions = Vec::new(alloc);
     both_ends(alloc, &mut server, &mut clients, &steps, &mut completions)?;
     let given = server.servant().given();

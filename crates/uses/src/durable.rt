@@ -66,6 +66,33 @@ fn answer<C: Catalogue + Drop, S: Store>(
     Ok(())
 }
 
+/// Feeds a piece of connection 1 to its end, and answers each request that waits in it.
+fn feed<S: Servant + Drop>(
+    alloc: Global,
+    engine: &mut Engine<S>,
+    store: &mut MemoryStore<S>,
+    moment: u64,
+    piece: &[u8],
+    out: &mut Vec<u8>,
+) -> Result<(), DurableError>
+    requires idle { waits_in engine.old ≡ None }
+    ensures idle { waits_in engine.new ≡ None }
+{
+    let mut left = piece;
+    while !left.is_empty() {
+        let taken = match engine.feed(1, moment, left, out)? {
+            Fed::Whole => return Ok(()),
+            Fed::Asks(taken) => {
+                answer(alloc, engine, store, out)?;
+                taken
+            }
+            Fed::Repeats(taken) => taken,
+        };
+        (_, left) = left.split_at(taken);
+    }
+    Ok(())
+}
+
 /// Serves one piece on a connection to a new engine, whose owner keeps its outcomes in a store. `offered` says what the
 /// store's servant offers. Whatever engines came before: what is performed for a key is performed once, and a repeat gets
 /// what the store holds, also where it would be refused by now.
@@ -90,17 +117,5 @@ pub fn live_durably<S: Servant + Drop>(
     let mut engine = Engine::new(alloc, offered, Limits::default(), retention, places, hasher);
     engine.ask_first(true);
     engine.connect(1)?;
-    let mut left = piece;
-    while !left.is_empty() {
-        let taken = match engine.feed(1, moment, left, out)? {
-            Fed::Whole => return Ok(()),
-            Fed::Asks(taken) => {
-                answer(alloc, &mut engine, store, out)?;
-                taken
-            }
-            Fed::Repeats(taken) => taken,
-        };
-        (_, left) = left.split_at(taken);
-    }
-    Ok(())
+    feed(alloc, &mut engine, store, moment, piece, out)
 }

@@ -134,6 +134,22 @@ fn serve_turn(
     Ok(send(sent, connection, octets)?)
 }
 
+/// Serves turns, one after another.
+fn serve_turns(
+    alloc: Global,
+    engine: &mut Engine<Interfaces>,
+    turns: Vec<Turn>,
+    sent: &mut Sent,
+) -> Result<(), BankingError>
+    requires idle { waits_in engine.old ≡ None }
+    ensures idle { waits_in engine.new ≡ None }
+{
+    for turn in turns {
+        serve_turn(alloc, engine, turn, sent)?;
+    }
+    Ok(())
+}
+
 /// Serves a bank whose outcomes come from elsewhere: appends what is to be sent, in order.
 pub fn serve_later(
     alloc: Global,
@@ -154,8 +170,5 @@ pub fn serve_later(
     };
     let interfaces = bank_interfaces(alloc)?;
     let mut engine = Engine::new(alloc, interfaces, limits, retention, places, hasher);
-    for turn in turns {
-        serve_turn(alloc, &mut engine, turn, sent)?;
-    }
-    Ok(())
+    serve_turns(alloc, &mut engine, turns, sent)
 }

@@ -79,8 +79,8 @@ pub fn next_ticket(
         capacity: 100,
         share: 10,
     };
-    let mut server = Server::new(alloc, tickets, limits, retention, hasher);
     let mut client = FtClient::new(alloc, b"A", Version::V12, limits)?;
+    let mut server = Server::new(alloc, tickets, limits, retention, hasher);
     let completion = call_twice(alloc, &mut client, &mut server)?;
     Ok((completion, server.servant().given()))
 }

@@ -9,7 +9,7 @@ use alloc::format;
 use std::io::{self, ErrorKind, Read, Write};
 use std::net::{TcpStream, ToSocketAddrs};
 use std::thread;
-use std::time::Duration;
+use std::time::{Duration, Instant};
 
 /// How long calls are sent again where nothing else is said.
 const PATIENCE: Duration = Duration::from_secs(60);
@@ -24,11 +24,12 @@ const NOT_EXIST: &str = "IDL:omg.org/CORBA/OBJECT_NOT_EXIST:1.0";
 
 /// Makes calls over TCP, one at a time, and waits for each: it is sent again under its number on
 /// each new connection, and after `TRANSIENT`, until it is answered or expires. An address that
-/// can't be reached, is lost without an answer, or answers `TRANSIENT` is left for the next one. A
-/// call that is forwarded is asked for where it leads, and so are later ones of its key, until
-/// nobody answers there. Where no address can be reached as it expires, it ends by `TRANSIENT`,
-/// [`Completed::No`], or by `COMM_FAILURE`, [`Completed::Maybe`], if a connection was lost on which
-/// it was sent. Its client id is random.
+/// can't be reached, is lost without an answer, answers `TRANSIENT`, or says nothing for a time is
+/// left for the next one. A call that is forwarded is asked for where it leads, and so are later
+/// ones of its key, until nobody answers there. A oneway call has ended once it is sent. Where no
+/// address can be reached as it expires, it ends by `TRANSIENT`, [`Completed::No`], or by
+/// `COMM_FAILURE`, [`Completed::Maybe`], if a connection was lost on which it was sent. Its client
+/// id is random.
 #[derive(Debug)]
 pub struct Caller {
     client: Client,
@@ -36,6 +37,9 @@ pub struct Caller {
     /// The number of the last call.
     last: i32,
     patience: Duration,
+    /// How long one of several addresses may say nothing; none: its share of the patience.
+    answer_timeout: Option<Duration>,
+    values_limit: Option<usize>,
     home: Road,
     /// A key that was forwarded, and where that leads, while somebody answers there.
     led: Option<(Vec<u8>, Road)>,
@@ -47,13 +51,21 @@ pub struct Caller {
 }
 
 /// A connection, if there is one.
-#[derive(Debug, Default)]
+#[derive(Debug)]
 struct Link {
     stream: Option<TcpStream>,
+    /// When something was sent or came last.
+    since: Instant,
     /// Whether an answer came on it.
     is_heard: bool,
     /// Whether a call was sent on it that is not answered.
     is_sent: bool,
+}
+
+impl Default for Link {
+    fn default() -> Link {
+        Link { stream: None, since: Instant::now(), is_heard: false, is_sent: false }
+    }
 }
 
 /// How the wait for a call ends.
@@ -62,7 +74,7 @@ enum Settled<O: Operation> {
     Ended(Result<O::Results, Failure<O>>),
     /// By a forward.
     Led(Reference),
-    /// Nobody answers where it was led.
+    /// Nobody answers where it was led, or it is oneway and could not be sent.
     Unanswered,
 }
 
@@ -91,13 +103,39 @@ impl Caller {
         let id = format!("{one:016x}{two:016x}");
         let client = opened(&id, &home, 0)?;
         let (patience, link) = (PATIENCE, Link::default());
-        let (last, led, is_led, is_lost) = (0, None, false, false);
-        Ok(Caller { client, id, last, patience, home, led, is_led, link, is_lost })
+        let (last, answer_timeout, values_limit) = (0, None, None);
+        let (led, is_led, is_lost) = (None, false, false);
+        Ok(Caller {
+            client,
+            id,
+            last,
+            patience,
+            answer_timeout,
+            values_limit,
+            home,
+            led,
+            is_led,
+            link,
+            is_lost,
+        })
     }
 
     /// Says how long the calls that come are sent again: 60 seconds in a new one.
     pub fn set_patience(&mut self, patience: Duration) {
         self.patience = patience;
+    }
+
+    /// Says how long one of several addresses may say nothing to a call until the next one is
+    /// asked: in a new one its share of the patience.
+    pub fn set_answer_timeout(&mut self, most: Duration) {
+        self.answer_timeout = Some(most);
+    }
+
+    /// Says how much memory what a reply has may take, as [`Reader::limit`](crate::cdr::Reader::limit)
+    /// does.
+    pub fn set_values_limit(&mut self, octets: usize) {
+        self.values_limit = Some(octets);
+        self.client.set_values_limit(octets);
     }
 
     fn road(&mut self) -> &mut Road {
@@ -113,6 +151,9 @@ impl Caller {
         let led = self.led.as_ref().filter(|(from, _)| from == key).map(|(_, road)| road);
         if led.is_some() != self.is_led || last != self.last {
             self.client = opened(&self.id, led.unwrap_or(&self.home), last)?;
+            if let Some(octets) = self.values_limit {
+                self.client.set_values_limit(octets);
+            }
             (self.is_led, self.last) = (led.is_some(), last);
             self.link = Link::default();
         }
@@ -125,29 +166,49 @@ impl Caller {
         let (mut failed, mut pauses) = (0, Pauses(PAUSES.0));
         loop {
             self.client.tick(Moment::now());
-            match self.client.completed()? {
-                Some(completion) if completion.call == number => {
+            // (a oneway call has ended as soon as it is due: so what is due is sent first)
+            let is_well = self.send_due().is_ok();
+            let mut has_ended = false;
+            if let Some(completion) = self.client.completed()? {
+                has_ended = completion.call == number;
+                if has_ended && (is_well || completion.ended != Ended::Sent) {
                     return self.link.settled(&completion, self.is_lost);
                 }
-                _ => {}
             }
-            if self.talk().is_err() && !self.move_on(&mut failed, &mut pauses) {
-                self.client.cancel(number)?;
-                self.led = None;
-                return Ok(Settled::Unanswered);
+            if !has_ended && is_well && self.talk().is_ok() {
+                continue;
             }
+            match self.move_on(&mut failed, &mut pauses) {
+                true if !has_ended => continue,
+                true => {}
+                false => {
+                    self.client.cancel(number)?;
+                    self.led = None;
+                }
+            }
+            return Ok(Settled::Unanswered);
         }
     }
 
-    /// Leaves an address for the next one, but for one that had answered on this connection. After
-    /// each connection, and after a round of addresses, it waits. Not so where a call was led to
-    /// where nobody answers.
+    /// Whether the address that is asked has said nothing for too long, and there is another way:
+    /// another address, or the one to where a call was led from.
+    fn is_mute(&mut self) -> bool {
+        let count = u32::try_from(self.road().addresses.len()).unwrap_or(u32::MAX);
+        let most = self.answer_timeout.unwrap_or(self.patience / count);
+        let is_waiting = self.link.stream.is_some() && self.link.is_sent;
+        is_waiting && (self.is_led || count > 1) && self.link.since.elapsed() >= most
+    }
+
+    /// Leaves an address for the next one, but for one that had answered on this connection and was
+    /// lost. After each connection, and after a round of addresses, it waits. Not so where a call
+    /// was led to where nobody answers.
     fn move_on(&mut self, failed: &mut usize, pauses: &mut Pauses) -> bool {
+        let was_mute = self.is_mute();
         let left = core::mem::take(&mut self.link);
-        let was_there = left.stream.is_some();
+        let was_there = left.stream.is_some() && !was_mute;
         self.client.lost();
         self.is_lost |= left.is_sent;
-        if left.is_heard {
+        if left.is_heard && !was_mute {
             return true;
         }
         let road = self.road();
@@ -176,29 +237,68 @@ impl Caller {
         self.client.connected(Moment::now()).map_err(io::Error::other)
     }
 
-    /// Connects, sends what is due, or takes what comes.
-    fn talk(&mut self) -> io::Result<()> {
-        let Some(stream) = &mut self.link.stream else { return self.connect() };
+    /// Sends what is due, where it is connected.
+    fn send_due(&mut self) -> io::Result<()> {
+        let Some(stream) = &mut self.link.stream else { return Ok(()) };
         let due = self.client.take_output();
         if !due.is_empty() {
             self.link.is_sent = true;
-            return stream.write_all(&due);
+            stream.write_all(&due)?;
+            self.link.since = Instant::now();
         }
+        Ok(())
+    }
+
+    /// Takes what comes within the time-out of the socket, if anything does.
+    fn hear(&mut self) -> io::Result<bool> {
+        let Some(stream) = &mut self.link.stream else { return Ok(false) };
         let mut room = [0; 4096];
-        match stream.read(&mut room) {
-            Ok(0) => Err(ErrorKind::UnexpectedEof.into()),
-            Ok(size) => self.client.feed(&room[..size]).map_err(io::Error::other),
-            Err(error) if error.kind() == ErrorKind::Interrupted => Ok(()),
-            // (a time-out)
-            Err(error) if matches!(error.kind(), ErrorKind::WouldBlock | ErrorKind::TimedOut) => {
-                self.resend()
+        let size = match stream.read(&mut room) {
+            Ok(size) => size,
+            // (the last two: a time-out)
+            Err(error)
+                if matches!(
+                    error.kind(),
+                    ErrorKind::Interrupted | ErrorKind::WouldBlock | ErrorKind::TimedOut
+                ) =>
+            {
+                return Ok(false);
             }
-            Err(error) => Err(error),
+            Err(error) => return Err(error),
+        };
+        self.link.since = Instant::now();
+        if size == 0 {
+            return Err(ErrorKind::UnexpectedEof.into());
         }
-        .and_then(|()| match self.client.is_connected() {
-            true => Ok(()),
+        self.client.feed(&room[..size]).map_err(io::Error::other)?;
+        match self.client.is_connected() {
+            true => Ok(true),
             false => Err(ErrorKind::ConnectionAborted.into()),
-        })
+        }
+    }
+
+    /// Whether a connection, if there is one, goes on, as far as that can be heard at once.
+    fn goes_on(&mut self) -> bool {
+        let Some(stream) = &self.link.stream else { return true };
+        let is_set = stream.set_nonblocking(true).is_ok();
+        let is_well = self.hear().is_ok();
+        let is_reset =
+            self.link.stream.as_ref().is_some_and(|it| it.set_nonblocking(false).is_ok());
+        is_set && is_well && is_reset
+    }
+
+    /// Connects, or takes what comes for a while.
+    fn talk(&mut self) -> io::Result<()> {
+        if self.link.stream.is_none() {
+            return self.connect();
+        }
+        if self.hear()? {
+            return Ok(());
+        }
+        if self.is_mute() {
+            return Err(ErrorKind::TimedOut.into());
+        }
+        self.resend()
     }
 
     /// What `TRANSIENT` left pending is due again: here, if there is no other address.
@@ -286,6 +386,11 @@ impl Calls for Caller {
                 pauses.wait();
             }
             let there = self.turn_to(key, last)?;
+            // (of a oneway call nobody would hear that its connection is over)
+            if O::IS_ONEWAY && !self.goes_on() {
+                self.link = Link::default();
+                self.client.lost();
+            }
             let made = call::<O>(&mut self.client, Moment::now(), expiration, &there, arguments);
             self.last = match made {
                 Err(Error::Expired) if hops > 0 => return Err(unreached(self.is_lost)),

@@ -3,8 +3,11 @@
 use super::{String, Vec};
 use crate::cdr::{Reader, Writer};
 use crate::{Error, Type};
+use alloc::format;
 use core::borrow::Borrow;
+use core::fmt;
 use core::marker::PhantomData;
+use core::mem::size_of;
 
 /// What reads and writes values of a type of IDL. A struct, union, enum or exception is its own.
 pub trait Codec {
@@ -17,7 +20,8 @@ pub trait Codec {
     ///
     /// # Errors
     ///
-    /// `Short` and `Value`: the octets are none of the type, or pass a bound.
+    /// `Short` and `Value`: the octets are none of the type, or pass a bound or
+    /// [the limit of the reader](Reader::limit).
     fn read(reader: &mut Reader<'_>) -> Result<Self::Value, Error>;
 
     /// Writes a value.
@@ -52,6 +56,61 @@ pub fn read<C: Codec>(reader: &mut Reader<'_>) -> Result<C::Value, Error> {
 /// As of [`Codec::write`].
 pub fn write<C: Codec>(writer: &mut Writer, value: &C::Lent) -> Result<(), Error> {
     C::write(writer, value)
+}
+
+/// Writes a member, which [`Writer::why`] names where it is refused.
+///
+/// # Errors
+///
+/// As of [`Codec::write`].
+pub fn write_in<C: Codec>(writer: &mut Writer, name: &str, value: &C::Lent) -> Result<(), Error> {
+    C::write(writer, value).map_err(|error| writer.within(name, error))
+}
+
+/// Writes an argument of an operation.
+///
+/// # Errors
+///
+/// As of [`Codec::write`], and which argument it is.
+pub fn argument<C: Codec>(
+    writer: &mut Writer,
+    operation: &str,
+    name: &str,
+    value: &C::Lent,
+) -> Result<(), Refused> {
+    write_in::<C>(writer, name, value)
+        .map_err(|error| Refused { error, why: format!("{operation}: {}", writer.why()) })
+}
+
+/// An argument that is none of its type.
+#[derive(Clone, Debug, PartialEq, Eq)]
+pub struct Refused {
+    /// `Range`, `Text` or `Long`.
+    pub error: Error,
+    /// Which argument it is, and what it passes, in a line.
+    pub why: String,
+}
+
+impl fmt::Display for Refused {
+    fn fmt(&self, out: &mut fmt::Formatter<'_>) -> fmt::Result {
+        out.write_str(&self.why)
+    }
+}
+
+impl core::error::Error for Refused {}
+
+/// Notes that a value of so many passes its bound.
+fn over(writer: &mut Writer, kind: &str, size: usize, bound: usize) -> Error {
+    writer.refuse(Error::Range, format!("a {kind} of {size}, and the bound is {bound}"))
+}
+
+/// Writes the members of a sequence or an array.
+fn write_members<C: Codec>(writer: &mut Writer, values: &[C::Value]) -> Result<(), Error> {
+    for (index, value) in values.iter().enumerate() {
+        C::write(writer, value.borrow())
+            .map_err(|error| writer.within(format_args!("[{index}]"), error))?;
+    }
+    Ok(())
 }
 
 macro_rules! basics {
@@ -121,7 +180,13 @@ impl Codec for Char {
     }
 
     fn write(writer: &mut Writer, value: &char) -> Result<(), Error> {
-        writer.char(octet_of(*value)?).map(drop)
+        match octet_of(*value) {
+            Ok(octet) => writer.char(octet).map(drop),
+            Err(error) => {
+                Err(writer
+                    .refuse(error, format!("{value:?} is no char: one character of ISO 8859-1")))
+            }
+        }
     }
 }
 
@@ -138,18 +203,25 @@ impl<const BOUND: usize> Codec for Text<BOUND> {
         if !is_within(octets.len(), BOUND) {
             return Err(Error::Value);
         }
+        let wide = octets.iter().filter(|octet| !octet.is_ascii()).count();
+        reader.claim(octets.len() + wide)?;
         Ok(octets.iter().copied().map(char::from).collect())
     }
 
     fn write(writer: &mut Writer, value: &str) -> Result<(), Error> {
-        if value.is_ascii() && is_within(value.len(), BOUND) {
-            return writer.string(value).map(drop);
-        }
-        let octets = value.chars().map(octet_of).collect::<Result<Vec<u8>, Error>>()?;
+        let octets = value.chars().map(octet_of).collect::<Result<Vec<u8>, Error>>();
+        let octets = octets.map_err(|error| {
+            writer.refuse(error, format!("{value:?} has characters beyond ISO 8859-1"))
+        })?;
         if !is_within(octets.len(), BOUND) {
-            return Err(Error::Range);
+            return Err(over(writer, "string", octets.len(), BOUND));
         }
-        writer.string(octets).map(drop)
+        match writer.string(octets) {
+            Err(Error::Text) => {
+                Err(writer.refuse(Error::Text, format!("a NUL in the string {value:?}")))
+            }
+            written => written.map(drop),
+        }
     }
 }
 
@@ -163,18 +235,26 @@ impl<const BOUND: usize> Codec for Octets<BOUND> {
 
     fn read(reader: &mut Reader<'_>) -> Result<Vec<u8>, Error> {
         let octets = reader.octets()?;
-        is_within(octets.len(), BOUND).then(|| octets.to_vec()).ok_or(Error::Value)
+        if !is_within(octets.len(), BOUND) {
+            return Err(Error::Value);
+        }
+        reader.claim(octets.len())?;
+        Ok(octets.to_vec())
     }
 
     fn write(writer: &mut Writer, value: &[u8]) -> Result<(), Error> {
         if !is_within(value.len(), BOUND) {
-            return Err(Error::Range);
+            return Err(over(writer, "sequence", value.len(), BOUND));
         }
         writer.octets(value).map(drop)
     }
 }
 
-/// A sequence of at most so many members; 0: without a bound.
+/// How deep sequences may stand in sequences.
+const DEPTH: u8 = 64;
+
+/// A sequence of at most so many members; 0: without a bound. Of sequences in sequences there are at
+/// most 64.
 #[derive(Debug)]
 pub struct Sequence<C, const BOUND: usize = 0>(PhantomData<C>);
 
@@ -188,22 +268,31 @@ impl<C: Codec, const BOUND: usize> Codec for Sequence<C, BOUND> {
         if count > reader.rest().len() {
             return Err(Error::Short);
         }
-        if !is_within(count, BOUND) {
+        if !is_within(count, BOUND) || reader.depth == DEPTH {
             return Err(Error::Value);
         }
-        let mut values = Vec::new();
-        for _ in 0..count {
-            values.push(C::read(reader)?);
-        }
-        Ok(values)
+        reader.depth += 1;
+        let values = (0..count).map(|_| {
+            reader.claim(size_of::<C::Value>())?;
+            C::read(reader)
+        });
+        let values = values.collect();
+        reader.depth -= 1;
+        values
     }
 
     fn write(writer: &mut Writer, values: &[C::Value]) -> Result<(), Error> {
         if !is_within(values.len(), BOUND) {
-            return Err(Error::Range);
+            return Err(over(writer, "sequence", values.len(), BOUND));
+        }
+        if writer.depth == DEPTH {
+            return Err(writer.refuse(Error::Range, format!("sequences more than {DEPTH} deep")));
         }
         writer.ulong(u32::try_from(values.len()).map_err(|_| Error::Long)?)?;
-        values.iter().try_for_each(|value| C::write(writer, value.borrow()))
+        writer.depth += 1;
+        let written = write_members::<C>(writer, values);
+        writer.depth -= 1;
+        written
     }
 }
 
@@ -221,7 +310,7 @@ impl<C: Codec, const SIZE: usize> Codec for Array<C, SIZE> {
     }
 
     fn write(writer: &mut Writer, values: &[C::Value; SIZE]) -> Result<(), Error> {
-        values.iter().try_for_each(|value| C::write(writer, value.borrow()))
+        write_members::<C>(writer, values)
     }
 }
 

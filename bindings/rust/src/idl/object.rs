@@ -1,6 +1,6 @@
 //! Calls of operations, and the objects of which they are.
 
-use super::codec::{Boolean, Codec, Text};
+use super::codec::{Boolean, Codec, Refused, Text};
 use super::{Operation, String, Vec};
 use crate::cdr::{Reader, Writer};
 use crate::{Call, Client, Completed, Completion, Ended, Error, Moment, RawCall, Signature};
@@ -25,10 +25,18 @@ pub enum Failure<O> {
     Raised(O),
     /// A system exception.
     System(SystemRaised),
-    /// `Range` and `Text`: an argument is none of its type, and nothing was sent. `Expired`: no reply
-    /// came. `Value` and `Short`: the reply has no results of their types. `Outcome`: it has another
-    /// exception, or leads to no address. Else what [`Client`] answers.
+    /// An argument is none of its type, and nothing was sent.
+    Refused(Refused),
+    /// `Expired`: no reply came. `Value` and `Short`: the reply has no results of their types, or
+    /// they pass a limit. `Outcome`: it has another exception, or leads to no address. Else what
+    /// [`Client`] answers.
     Error(Error),
+}
+
+impl<O> From<Refused> for Failure<O> {
+    fn from(refused: Refused) -> Failure<O> {
+        Failure::Refused(refused)
+    }
 }
 
 impl<O> From<Error> for Failure<O> {
@@ -44,6 +52,7 @@ impl<O: Operation> fmt::Display for Failure<O> {
             Failure::System(raised) => {
                 write!(out, "{}: minor {}, {:?}", raised.id, raised.minor, raised.completed)
             }
+            Failure::Refused(refused) => refused.fmt(out),
             Failure::Error(error) => error.fmt(out),
         }
     }

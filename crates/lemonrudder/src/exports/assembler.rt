@@ -16,13 +16,7 @@ use crate::slot::Slot;
 use std::alloc::Global;
 
 /// Opens an assembler of a stream of which nothing has come.
-#[unsafe(no_mangle)]
-pub extern "C" fn lr_assembler_open(
-    alloc: Global,
-    slot: &mut Slot,
-    message_limit: u32,
-    partials: u32,
-) -> i64
+pub fn lr_assembler_open(alloc: Global, slot: &mut Slot, message_limit: u32, partials: u32) -> i64
     ensures { OpensMade Object.Assembler (IsNew message_limit partials) (held_in slot.old) (held_in slot.new) result }
 {
     if !slot.is_empty() {
@@ -35,24 +29,21 @@ pub extern "C" fn lr_assembler_open(
 }
 
 /// Takes octets up to and with the end of the next message, and answers how many.
-#[unsafe(no_mangle)]
-pub extern "C" fn lr_assembler_feed(alloc: Global, slot: &mut Slot, octets: &[u8]) -> i64
+pub fn lr_assembler_feed(alloc: Global, slot: &mut Slot, octets: &[u8]) -> i64
     ensures { OnAssembler (OnFeed octets.now) (held_in slot.old) (held_in slot.new) result }
 {
     slot.assembler(alloc, &mut |assembler| assembler.feed(octets))
 }
 
 /// The first fault of the stream.
-#[unsafe(no_mangle)]
-pub extern "C" fn lr_assembler_fault(alloc: Global, slot: &mut Slot) -> i64
+pub fn lr_assembler_fault(alloc: Global, slot: &mut Slot) -> i64
     ensures { OnAssembler OnFault (held_in slot.old) (held_in slot.new) result }
 {
     slot.assembler(alloc, &mut |assembler| Ok(assembler.fault()))
 }
 
 /// Says what the message is that the last feed completed: `lr_message`.
-#[unsafe(no_mangle)]
-pub extern "C" fn lr_assembler_message(alloc: Global, slot: &mut Slot, room: &mut [u8]) -> i64
+pub fn lr_assembler_message(alloc: Global, slot: &mut Slot, room: &mut [u8]) -> i64
     ensures told { OnAssembler (OnMessage room.old room.new) (held_in slot.old) (held_in slot.new) result }
     ensures none { result ≤ℤ pos 0 → room.new ≡ room.old }
 {
@@ -60,13 +51,7 @@ pub extern "C" fn lr_assembler_message(alloc: Global, slot: &mut Slot, room: &mu
 }
 
 /// Copies a part of that message.
-#[unsafe(no_mangle)]
-pub extern "C" fn lr_assembler_part(
-    alloc: Global,
-    slot: &mut Slot,
-    part: u32,
-    room: &mut [u8],
-) -> i64
+pub fn lr_assembler_part(alloc: Global, slot: &mut Slot, part: u32, room: &mut [u8]) -> i64
     ensures copied { OnAssembler (OnPart part room.old room.new) (held_in slot.old) (held_in slot.new) result }
     ensures refused { result <ℤ pos 0 → room.new ≡ room.old }
 {
@@ -74,8 +59,7 @@ pub extern "C" fn lr_assembler_part(
 }
 
 /// Copies a service context of that message, and gives its id.
-#[unsafe(no_mangle)]
-pub extern "C" fn lr_assembler_context(
+pub fn lr_assembler_context(
     alloc: Global,
     slot: &mut Slot,
     index: u32,

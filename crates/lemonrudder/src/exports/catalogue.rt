@@ -18,45 +18,35 @@ use crate::slot::Slot;
 use std::alloc::Global;
 
 /// Opens a catalogue without objects.
-#[unsafe(no_mangle)]
-pub extern "C" fn lr_catalogue_open(alloc: Global, slot: &mut Slot) -> i64
+pub fn lr_catalogue_open(alloc: Global, slot: &mut Slot) -> i64
     ensures { OpensEmpty (held_in slot.old) (held_in slot.new) result }
 {
     open(alloc, slot, Object::Catalogue(Cataloguing::new(alloc)))
 }
 
 /// Adds an object without operations.
-#[unsafe(no_mangle)]
-pub extern "C" fn lr_catalogue_object(alloc: Global, slot: &mut Slot, key: &[u8]) -> i64
+pub fn lr_catalogue_object(alloc: Global, slot: &mut Slot, key: &[u8]) -> i64
     ensures { OnCatalogue (OnObject key.now) (held_in slot.old) (held_in slot.new) result }
 {
     slot.catalogue(alloc, &mut |catalogue| catalogue.object(key))
 }
 
 /// Adds an object whose every operation is raw.
-#[unsafe(no_mangle)]
-pub extern "C" fn lr_catalogue_raw_object(alloc: Global, slot: &mut Slot, key: &[u8]) -> i64
+pub fn lr_catalogue_raw_object(alloc: Global, slot: &mut Slot, key: &[u8]) -> i64
     ensures { OnCatalogue (OnRawObject key.now) (held_in slot.old) (held_in slot.new) result }
 {
     slot.catalogue(alloc, &mut |catalogue| catalogue.raw_object(key))
 }
 
 /// Declares an exception of the operation that is added next.
-#[unsafe(no_mangle)]
-pub extern "C" fn lr_catalogue_exception(
-    alloc: Global,
-    slot: &mut Slot,
-    id: &[u8],
-    members: &[u8],
-) -> i64
+pub fn lr_catalogue_exception(alloc: Global, slot: &mut Slot, id: &[u8], members: &[u8]) -> i64
     ensures { OnCatalogue (OnException id.now members.now) (held_in slot.old) (held_in slot.new) result }
 {
     slot.catalogue(alloc, &mut |catalogue| catalogue.exception(id, members))
 }
 
 /// Adds an operation with the exceptions that were declared.
-#[unsafe(no_mangle)]
-pub extern "C" fn lr_catalogue_operation(
+pub fn lr_catalogue_operation(
     alloc: Global,
     slot: &mut Slot,
     key: &[u8],
@@ -73,34 +63,21 @@ pub extern "C" fn lr_catalogue_operation(
 }
 
 /// Adds an operation that is raw.
-#[unsafe(no_mangle)]
-pub extern "C" fn lr_catalogue_raw_operation(
-    alloc: Global,
-    slot: &mut Slot,
-    key: &[u8],
-    name: &[u8],
-) -> i64
+pub fn lr_catalogue_raw_operation(alloc: Global, slot: &mut Slot, key: &[u8], name: &[u8]) -> i64
     ensures { OnCatalogue (OnRawOperation key.now name.now) (held_in slot.old) (held_in slot.new) result }
 {
     slot.catalogue(alloc, &mut |catalogue| catalogue.raw_operation(key, name))
 }
 
 /// Names the repository ids of an object.
-#[unsafe(no_mangle)]
-pub extern "C" fn lr_catalogue_repository_ids(
-    alloc: Global,
-    slot: &mut Slot,
-    key: &[u8],
-    ids: &[u8],
-) -> i64
+pub fn lr_catalogue_repository_ids(alloc: Global, slot: &mut Slot, key: &[u8], ids: &[u8]) -> i64
     ensures { OnCatalogue (OnRepositoryIds key.now ids.now) (held_in slot.old) (held_in slot.new) result }
 {
     slot.catalogue(alloc, &mut |catalogue| catalogue.repository_ids(key, ids))
 }
 
 /// Adds an object whose every operation is raw, for each key that leads to no other.
-#[unsafe(no_mangle)]
-pub extern "C" fn lr_catalogue_default(alloc: Global, slot: &mut Slot) -> i64
+pub fn lr_catalogue_default(alloc: Global, slot: &mut Slot) -> i64
     ensures { OnCatalogue OnDefault (held_in slot.old) (held_in slot.new) result }
 {
     slot.catalogue(alloc, &mut |catalogue| catalogue.default())
@@ -119,8 +96,7 @@ fn joined(alloc: Global, object: &mut Object, families: &mut Slot) -> i64
 }
 
 /// Takes the objects of another catalogue as families, which is empty afterwards.
-#[unsafe(no_mangle)]
-pub extern "C" fn lr_catalogue_families(alloc: Global, slot: &mut Slot, families: &mut Slot) -> i64
+pub fn lr_catalogue_families(alloc: Global, slot: &mut Slot, families: &mut Slot) -> i64
     ensures { OnCatalogues OnFamilies (held_in slot.old) (held_in slot.new) (held_in families.old) (held_in families.new) result }
 {
     let Some(mut object) = slot.take(alloc) else {
@@ -132,8 +108,7 @@ pub extern "C" fn lr_catalogue_families(alloc: Global, slot: &mut Slot, families
 }
 
 /// Takes an object away.
-#[unsafe(no_mangle)]
-pub extern "C" fn lr_catalogue_remove(alloc: Global, slot: &mut Slot, key: &[u8]) -> i64
+pub fn lr_catalogue_remove(alloc: Global, slot: &mut Slot, key: &[u8]) -> i64
     ensures { OnCatalogue (OnRemove key.now) (held_in slot.old) (held_in slot.new) result }
 {
     slot.catalogue(alloc, &mut |catalogue| catalogue.remove(key))

@@ -13,8 +13,7 @@ use crate::cdr::{Place, order_in};
 use crate::refusal::{Refusal, count_of, number_of};
 
 /// Reads an octet.
-#[unsafe(no_mangle)]
-pub extern "C" fn lr_get_octet(octets: &[u8], place: &mut Place, value: &mut u8) -> i64
+pub fn lr_get_octet(octets: &[u8], place: &mut Place, value: &mut u8) -> i64
     ensures { Gets octet_value (read_at (value_at octet) place.old octets.now) place.old place.new value.old value.new result }
 {
     let mut cursor = match place.cursor(octets) {
@@ -32,8 +31,7 @@ pub extern "C" fn lr_get_octet(octets: &[u8], place: &mut Place, value: &mut u8)
 }
 
 /// Reads a char.
-#[unsafe(no_mangle)]
-pub extern "C" fn lr_get_char(octets: &[u8], place: &mut Place, value: &mut u8) -> i64
+pub fn lr_get_char(octets: &[u8], place: &mut Place, value: &mut u8) -> i64
     ensures { Gets char_value (read_at (value_at char) place.old octets.now) place.old place.new value.old value.new result }
 {
     let mut cursor = match place.cursor(octets) {
@@ -51,8 +49,7 @@ pub extern "C" fn lr_get_char(octets: &[u8], place: &mut Place, value: &mut u8) 
 }
 
 /// Reads a boolean: 0 or 1.
-#[unsafe(no_mangle)]
-pub extern "C" fn lr_get_boolean(octets: &[u8], place: &mut Place, value: &mut u8) -> i64
+pub fn lr_get_boolean(octets: &[u8], place: &mut Place, value: &mut u8) -> i64
     ensures { Gets flag_value (read_at (value_at form.boolean) place.old octets.now) place.old place.new value.old value.new result }
 {
     let mut cursor = match place.cursor(octets) {
@@ -70,8 +67,7 @@ pub extern "C" fn lr_get_boolean(octets: &[u8], place: &mut Place, value: &mut u
 }
 
 /// Reads a short.
-#[unsafe(no_mangle)]
-pub extern "C" fn lr_get_short(octets: &[u8], place: &mut Place, value: &mut i16) -> i64
+pub fn lr_get_short(octets: &[u8], place: &mut Place, value: &mut i16) -> i64
     ensures { Gets short_value (read_at (value_at short) place.old octets.now) place.old place.new value.old value.new result }
 {
     let mut cursor = match place.cursor(octets) {
@@ -89,8 +85,7 @@ pub extern "C" fn lr_get_short(octets: &[u8], place: &mut Place, value: &mut i16
 }
 
 /// Reads an unsigned short.
-#[unsafe(no_mangle)]
-pub extern "C" fn lr_get_ushort(octets: &[u8], place: &mut Place, value: &mut u16) -> i64
+pub fn lr_get_ushort(octets: &[u8], place: &mut Place, value: &mut u16) -> i64
     ensures { Gets ushort_value (read_at (value_at ushort) place.old octets.now) place.old place.new value.old value.new result }
 {
     let mut cursor = match place.cursor(octets) {
@@ -108,8 +103,7 @@ pub extern "C" fn lr_get_ushort(octets: &[u8], place: &mut Place, value: &mut u1
 }
 
 /// Reads a long.
-#[unsafe(no_mangle)]
-pub extern "C" fn lr_get_long(octets: &[u8], place: &mut Place, value: &mut i32) -> i64
+pub fn lr_get_long(octets: &[u8], place: &mut Place, value: &mut i32) -> i64
     ensures { Gets long_value (read_at (value_at long) place.old octets.now) place.old place.new value.old value.new result }
 {
     let mut cursor = match place.cursor(octets) {
@@ -127,8 +121,7 @@ pub extern "C" fn lr_get_long(octets: &[u8], place: &mut Place, value: &mut i32)
 }
 
 /// Reads an unsigned long.
-#[unsafe(no_mangle)]
-pub extern "C" fn lr_get_ulong(octets: &[u8], place: &mut Place, value: &mut u32) -> i64
+pub fn lr_get_ulong(octets: &[u8], place: &mut Place, value: &mut u32) -> i64
     ensures { Gets ulong_value (read_at (value_at ulong) place.old octets.now) place.old place.new value.old value.new result }
 {
     let mut cursor = match place.cursor(octets) {
@@ -146,8 +139,7 @@ pub extern "C" fn lr_get_ulong(octets: &[u8], place: &mut Place, value: &mut u32
 }
 
 /// Reads a long long.
-#[unsafe(no_mangle)]
-pub extern "C" fn lr_get_longlong(octets: &[u8], place: &mut Place, value: &mut i64) -> i64
+pub fn lr_get_longlong(octets: &[u8], place: &mut Place, value: &mut i64) -> i64
     ensures { Gets longlong_value (read_at (value_at longlong) place.old octets.now) place.old place.new value.old value.new result }
 {
     let mut cursor = match place.cursor(octets) {
@@ -165,8 +157,7 @@ pub extern "C" fn lr_get_longlong(octets: &[u8], place: &mut Place, value: &mut 
 }
 
 /// Reads an unsigned long long.
-#[unsafe(no_mangle)]
-pub extern "C" fn lr_get_ulonglong(octets: &[u8], place: &mut Place, value: &mut u64) -> i64
+pub fn lr_get_ulonglong(octets: &[u8], place: &mut Place, value: &mut u64) -> i64
     ensures { Gets ulonglong_value (read_at (value_at ulonglong) place.old octets.now) place.old place.new value.old value.new result }
 {
     let mut cursor = match place.cursor(octets) {
@@ -184,13 +175,7 @@ pub extern "C" fn lr_get_ulonglong(octets: &[u8], place: &mut Place, value: &mut
 }
 
 /// Reads a string: the index of its first octet, and its length without the NUL.
-#[unsafe(no_mangle)]
-pub extern "C" fn lr_get_string(
-    octets: &[u8],
-    place: &mut Place,
-    start: &mut u64,
-    length: &mut u64,
-) -> i64
+pub fn lr_get_string(octets: &[u8], place: &mut Place, start: &mut u64, length: &mut u64) -> i64
     ensures { Finds value.string (read_at (value_at text) place.old octets.now) octets.now place.old place.new start.old start.new length.old length.new result }
 {
     match place.string(octets) {
@@ -203,13 +188,7 @@ pub extern "C" fn lr_get_string(
 }
 
 /// Reads a sequence of octets: the index of the first, and how many there are.
-#[unsafe(no_mangle)]
-pub extern "C" fn lr_get_octets(
-    octets: &[u8],
-    place: &mut Place,
-    start: &mut u64,
-    length: &mut u64,
-) -> i64
+pub fn lr_get_octets(octets: &[u8], place: &mut Place, start: &mut u64, length: &mut u64) -> i64
     ensures { Finds value.octets (read_at (value_at raw) place.old octets.now) octets.now place.old place.new start.old start.new length.old length.new result }
 {
     match place.octets(octets) {
@@ -222,8 +201,7 @@ pub extern "C" fn lr_get_octets(
 }
 
 /// Enters an encapsulation: where its octets lie, and the place after its octet of the byte order.
-#[unsafe(no_mangle)]
-pub extern "C" fn lr_get_encapsulation(
+pub fn lr_get_encapsulation(
     octets: &[u8],
     place: &mut Place,
     start: &mut u64,
@@ -249,72 +227,63 @@ pub extern "C" fn lr_get_encapsulation(
 }
 
 /// Writes an octet.
-#[unsafe(no_mangle)]
-pub extern "C" fn lr_put_octet(room: &mut [u8], place: &mut Place, value: u8) -> i64
+pub fn lr_put_octet(room: &mut [u8], place: &mut Place, value: u8) -> i64
     ensures { Puts (put_at (octet_value value) place.old room.old) place.old place.new room.old room.new result }
 {
     number_of(place.put_number(room, &[value], &[value]))
 }
 
 /// Writes a char.
-#[unsafe(no_mangle)]
-pub extern "C" fn lr_put_char(room: &mut [u8], place: &mut Place, value: u8) -> i64
+pub fn lr_put_char(room: &mut [u8], place: &mut Place, value: u8) -> i64
     ensures { Puts (put_at (char_value value) place.old room.old) place.old place.new room.old room.new result }
 {
     number_of(place.put_number(room, &[value], &[value]))
 }
 
 /// Writes a short.
-#[unsafe(no_mangle)]
-pub extern "C" fn lr_put_short(room: &mut [u8], place: &mut Place, value: i16) -> i64
+pub fn lr_put_short(room: &mut [u8], place: &mut Place, value: i16) -> i64
     ensures { Puts (put_at (short_value value) place.old room.old) place.old place.new room.old room.new result }
 {
     number_of(place.put_number(room, &value.to_be_bytes(), &value.to_le_bytes()))
 }
 
 /// Writes an unsigned short.
-#[unsafe(no_mangle)]
-pub extern "C" fn lr_put_ushort(room: &mut [u8], place: &mut Place, value: u16) -> i64
+pub fn lr_put_ushort(room: &mut [u8], place: &mut Place, value: u16) -> i64
     ensures { Puts (put_at (ushort_value value) place.old room.old) place.old place.new room.old room.new result }
 {
     number_of(place.put_number(room, &value.to_be_bytes(), &value.to_le_bytes()))
 }
 
 /// Writes a long.
-#[unsafe(no_mangle)]
-pub extern "C" fn lr_put_long(room: &mut [u8], place: &mut Place, value: i32) -> i64
+pub fn lr_put_long(room: &mut [u8], place: &mut Place, value: i32) -> i64
     ensures { Puts (put_at (long_value value) place.old room.old) place.old place.new room.old room.new result }
 {
     number_of(place.put_number(room, &value.to_be_bytes(), &value.to_le_bytes()))
 }
 
 /// Writes an unsigned long.
-#[unsafe(no_mangle)]
-pub extern "C" fn lr_put_ulong(room: &mut [u8], place: &mut Place, value: u32) -> i64
+pub fn lr_put_ulong(room: &mut [u8], place: &mut Place, value: u32) -> i64
     ensures { Puts (put_at (ulong_value value) place.old room.old) place.old place.new room.old room.new result }
 {
     number_of(place.put_number(room, &value.to_be_bytes(), &value.to_le_bytes()))
 }
 
 /// Writes a long long.
-#[unsafe(no_mangle)]
-pub extern "C" fn lr_put_longlong(room: &mut [u8], place: &mut Place, value: i64) -> i64
+pub fn lr_put_longlong(room: &mut [u8], place: &mut Place, value: i64) -> i64
     ensures { Puts (put_at (longlong_value value) place.old room.old) place.old place.new room.old room.new result }
 {
     number_of(place.put_number(room, &value.to_be_bytes(), &value.to_le_bytes()))
 }
 
 /// Writes an unsigned long long.
-#[unsafe(no_mangle)]
-pub extern "C" fn lr_put_ulonglong(room: &mut [u8], place: &mut Place, value: u64) -> i64
+pub fn lr_put_ulonglong(room: &mut [u8], place: &mut Place, value: u64) -> i64
     ensures { Puts (put_at (ulonglong_value value) place.old room.old) place.old place.new room.old room.new result }
 {
     number_of(place.put_number(room, &value.to_be_bytes(), &value.to_le_bytes()))
 }
 
 /// Writes a boolean: 0 or 1.
-#[unsafe(no_mangle)]
-pub extern "C" fn lr_put_boolean(room: &mut [u8], place: &mut Place, value: u8) -> i64
+pub fn lr_put_boolean(room: &mut [u8], place: &mut Place, value: u8) -> i64
     ensures bit { value ≤ 1 → Puts (put_at (octet_value value) place.old room.old) place.old place.new room.old room.new result }
     ensures other { 1 < value → Puts (Err Refusal.Value) place.old place.new room.old room.new result }
 {
@@ -325,8 +294,7 @@ pub extern "C" fn lr_put_boolean(room: &mut [u8], place: &mut Place, value: u8) 
 }
 
 /// Writes a string, with its NUL.
-#[unsafe(no_mangle)]
-pub extern "C" fn lr_put_string(room: &mut [u8], place: &mut Place, text: &[u8]) -> i64
+pub fn lr_put_string(room: &mut [u8], place: &mut Place, text: &[u8]) -> i64
     ensures clean { IsClean text.now → Puts (put_long (length text.now + 1) (value.string text.now) place.old room.old) place.old place.new room.old room.new result }
     ensures unclean { ¬ (IsClean text.now) → Puts (Err Refusal.Text) place.old place.new room.old room.new result }
 {
@@ -334,8 +302,7 @@ pub extern "C" fn lr_put_string(room: &mut [u8], place: &mut Place, text: &[u8])
 }
 
 /// Writes a sequence of octets.
-#[unsafe(no_mangle)]
-pub extern "C" fn lr_put_octets(room: &mut [u8], place: &mut Place, octets: &[u8]) -> i64
+pub fn lr_put_octets(room: &mut [u8], place: &mut Place, octets: &[u8]) -> i64
     ensures { Puts (put_long (length octets.now) (value.octets octets.now) place.old room.old) place.old place.new room.old room.new result }
 {
     number_of(place.put_all(room, octets, &[]))

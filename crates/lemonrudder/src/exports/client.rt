@@ -18,8 +18,7 @@ use crate::slot::Slot;
 use std::alloc::Global;
 
 /// Opens a client that is not connected.
-#[unsafe(no_mangle)]
-pub extern "C" fn lr_client_open(alloc: Global, slot: &mut Slot, id: &[u8]) -> i64
+pub fn lr_client_open(alloc: Global, slot: &mut Slot, id: &[u8]) -> i64
     ensures { OpensMade Object.Client (IsMade id.now) (held_in slot.old) (held_in slot.new) result }
 {
     if !slot.is_empty() {
@@ -32,40 +31,35 @@ pub extern "C" fn lr_client_open(alloc: Global, slot: &mut Slot, id: &[u8]) -> i
 }
 
 /// The client is connected anew.
-#[unsafe(no_mangle)]
-pub extern "C" fn lr_client_connected(alloc: Global, slot: &mut Slot, now: u64) -> i64
+pub fn lr_client_connected(alloc: Global, slot: &mut Slot, now: u64) -> i64
     ensures { OnClient (OnConnected now) (held_in slot.old) (held_in slot.new) result }
 {
     slot.client(alloc, &mut |client| client.connected(now))
 }
 
 /// The connection is lost.
-#[unsafe(no_mangle)]
-pub extern "C" fn lr_client_lost(alloc: Global, slot: &mut Slot) -> i64
+pub fn lr_client_lost(alloc: Global, slot: &mut Slot) -> i64
     ensures { OnClient OnLost (held_in slot.old) (held_in slot.new) result }
 {
     slot.client(alloc, &mut |client| Ok(client.lost()))
 }
 
 /// Whether the client is connected.
-#[unsafe(no_mangle)]
-pub extern "C" fn lr_client_is_connected(alloc: Global, slot: &mut Slot) -> i64
+pub fn lr_client_is_connected(alloc: Global, slot: &mut Slot) -> i64
     ensures { OnClient OnIsConnected (held_in slot.old) (held_in slot.new) result }
 {
     slot.client(alloc, &mut |client| Ok(client.is_connected()))
 }
 
 /// Sets what a client keeps, or what it is made with.
-#[unsafe(no_mangle)]
-pub extern "C" fn lr_client_set(alloc: Global, slot: &mut Slot, what: u32, value: u64) -> i64
+pub fn lr_client_set(alloc: Global, slot: &mut Slot, what: u32, value: u64) -> i64
     ensures { OnClient (OnSet what value) (held_in slot.old) (held_in slot.new) result }
 {
     slot.client(alloc, &mut |client| client.set(what, value))
 }
 
 /// Calls an operation of an object, and answers the number of the call.
-#[unsafe(no_mangle)]
-pub extern "C" fn lr_client_call(
+pub fn lr_client_call(
     alloc: Global,
     slot: &mut Slot,
     now: u64,
@@ -89,8 +83,7 @@ pub extern "C" fn lr_client_call(
 }
 
 /// Takes a call of before up again, under its own number.
-#[unsafe(no_mangle)]
-pub extern "C" fn lr_client_recall(
+pub fn lr_client_recall(
     alloc: Global,
     slot: &mut Slot,
     call: i64,
@@ -118,24 +111,21 @@ pub extern "C" fn lr_client_recall(
 }
 
 /// Numbers up to this one were given to calls of before.
-#[unsafe(no_mangle)]
-pub extern "C" fn lr_client_skip_to(alloc: Global, slot: &mut Slot, call: i64) -> i64
+pub fn lr_client_skip_to(alloc: Global, slot: &mut Slot, call: i64) -> i64
     ensures { OnClient (OnSkip call) (held_in slot.old) (held_in slot.new) result }
 {
     slot.client(alloc, &mut |client| client.skip_to(call))
 }
 
 /// Sends what is pending and was not sent on this connection.
-#[unsafe(no_mangle)]
-pub extern "C" fn lr_client_resend(alloc: Global, slot: &mut Slot, now: u64) -> i64
+pub fn lr_client_resend(alloc: Global, slot: &mut Slot, now: u64) -> i64
     ensures { OnClient (OnResend now) (held_in slot.old) (held_in slot.new) result }
 {
     slot.client(alloc, &mut |client| client.resend(now))
 }
 
 /// Says the first call that is led elsewhere, `lr_completion`, and copies the reference to which.
-#[unsafe(no_mangle)]
-pub extern "C" fn lr_client_forwarded(
+pub fn lr_client_forwarded(
     alloc: Global,
     slot: &mut Slot,
     completion: &mut [u8],
@@ -149,8 +139,7 @@ pub extern "C" fn lr_client_forwarded(
 }
 
 /// Asks under another object key for a call that is led elsewhere.
-#[unsafe(no_mangle)]
-pub extern "C" fn lr_client_redirect(
+pub fn lr_client_redirect(
     alloc: Global,
     slot: &mut Slot,
     call: i64,
@@ -173,32 +162,28 @@ pub extern "C" fn lr_client_redirect(
 }
 
 /// Cancels a call.
-#[unsafe(no_mangle)]
-pub extern "C" fn lr_client_cancel(alloc: Global, slot: &mut Slot, call: i64) -> i64
+pub fn lr_client_cancel(alloc: Global, slot: &mut Slot, call: i64) -> i64
     ensures { OnClient (OnCancel call) (held_in slot.old) (held_in slot.new) result }
 {
     slot.client(alloc, &mut |client| client.cancel(call))
 }
 
 /// A moment has come.
-#[unsafe(no_mangle)]
-pub extern "C" fn lr_client_tick(alloc: Global, slot: &mut Slot, now: u64) -> i64
+pub fn lr_client_tick(alloc: Global, slot: &mut Slot, now: u64) -> i64
     ensures { OnClient (OnTick now) (held_in slot.old) (held_in slot.new) result }
 {
     slot.client(alloc, &mut |client| Ok(client.tick(now)))
 }
 
 /// Takes octets that came on the connection.
-#[unsafe(no_mangle)]
-pub extern "C" fn lr_client_feed(alloc: Global, slot: &mut Slot, octets: &[u8]) -> i64
+pub fn lr_client_feed(alloc: Global, slot: &mut Slot, octets: &[u8]) -> i64
     ensures { OnClient (OnFeed octets.now) (held_in slot.old) (held_in slot.new) result }
 {
     slot.client(alloc, &mut |client| client.feed(octets))
 }
 
 /// Takes the next completion: `lr_completion`.
-#[unsafe(no_mangle)]
-pub extern "C" fn lr_client_completed(alloc: Global, slot: &mut Slot, room: &mut [u8]) -> i64
+pub fn lr_client_completed(alloc: Global, slot: &mut Slot, room: &mut [u8]) -> i64
     ensures taken { OnClient (OnCompleted room.old room.new) (held_in slot.old) (held_in slot.new) result }
     ensures none { result ≤ℤ pos 0 → room.new ≡ room.old }
 {
@@ -206,8 +191,7 @@ pub extern "C" fn lr_client_completed(alloc: Global, slot: &mut Slot, room: &mut
 }
 
 /// Copies the body of the completion that was taken last.
-#[unsafe(no_mangle)]
-pub extern "C" fn lr_client_body(alloc: Global, slot: &mut Slot, room: &mut [u8]) -> i64
+pub fn lr_client_body(alloc: Global, slot: &mut Slot, room: &mut [u8]) -> i64
     ensures copied { OnClient (OnBody room.old room.new) (held_in slot.old) (held_in slot.new) result }
     ensures refused { result <ℤ pos 0 → room.new ≡ room.old }
 {
@@ -215,8 +199,7 @@ pub extern "C" fn lr_client_body(alloc: Global, slot: &mut Slot, room: &mut [u8]
 }
 
 /// Moves octets that are due into a room.
-#[unsafe(no_mangle)]
-pub extern "C" fn lr_client_output(alloc: Global, slot: &mut Slot, room: &mut [u8]) -> i64
+pub fn lr_client_output(alloc: Global, slot: &mut Slot, room: &mut [u8]) -> i64
     ensures moved { OnClient (OnOutput room.old room.new) (held_in slot.old) (held_in slot.new) result }
     ensures refused { result <ℤ pos 0 → room.new ≡ room.old }
 {

@@ -17,8 +17,7 @@ use crate::slot::Slot;
 use std::alloc::Global;
 
 /// Reads a stringified reference.
-#[unsafe(no_mangle)]
-pub extern "C" fn lr_ior_parse(alloc: Global, slot: &mut Slot, text: &[u8]) -> i64
+pub fn lr_ior_parse(alloc: Global, slot: &mut Slot, text: &[u8]) -> i64
     ensures { OpensMade Object.Reference (IsParsed text.now) (held_in slot.old) (held_in slot.new) result }
 {
     if !slot.is_empty() {
@@ -31,8 +30,7 @@ pub extern "C" fn lr_ior_parse(alloc: Global, slot: &mut Slot, text: &[u8]) -> i
 }
 
 /// A reference of a type to an object at an address of IIOP.
-#[unsafe(no_mangle)]
-pub extern "C" fn lr_ior_iiop(
+pub fn lr_ior_iiop(
     alloc: Global,
     slot: &mut Slot,
     type_id: &[u8],
@@ -59,8 +57,7 @@ pub extern "C" fn lr_ior_iiop(
 }
 
 /// Writes the stringified reference.
-#[unsafe(no_mangle)]
-pub extern "C" fn lr_ior_print(alloc: Global, slot: &mut Slot, room: &mut [u8]) -> i64
+pub fn lr_ior_print(alloc: Global, slot: &mut Slot, room: &mut [u8]) -> i64
     ensures printed { OnReference (OnPrint room.old room.new) (held_in slot.old) (held_in slot.new) result }
     ensures refused { result <ℤ pos 0 → room.new ≡ room.old }
 {
@@ -68,8 +65,7 @@ pub extern "C" fn lr_ior_print(alloc: Global, slot: &mut Slot, room: &mut [u8]) 
 }
 
 /// Copies the repository id of its type.
-#[unsafe(no_mangle)]
-pub extern "C" fn lr_ior_type_id(alloc: Global, slot: &mut Slot, room: &mut [u8]) -> i64
+pub fn lr_ior_type_id(alloc: Global, slot: &mut Slot, room: &mut [u8]) -> i64
     ensures copied { OnReference (OnTypeId room.old room.new) (held_in slot.old) (held_in slot.new) result }
     ensures refused { result <ℤ pos 0 → room.new ≡ room.old }
 {
@@ -77,16 +73,14 @@ pub extern "C" fn lr_ior_type_id(alloc: Global, slot: &mut Slot, room: &mut [u8]
 }
 
 /// How many profiles it has.
-#[unsafe(no_mangle)]
-pub extern "C" fn lr_ior_profiles(alloc: Global, slot: &mut Slot) -> i64
+pub fn lr_ior_profiles(alloc: Global, slot: &mut Slot) -> i64
     ensures { OnReference OnProfiles (held_in slot.old) (held_in slot.new) result }
 {
     slot.reference(alloc, &mut |reference| Ok(reference.profiles()))
 }
 
 /// Says what a profile has: `lr_profile`.
-#[unsafe(no_mangle)]
-pub extern "C" fn lr_ior_profile(alloc: Global, slot: &mut Slot, index: u32, room: &mut [u8]) -> i64
+pub fn lr_ior_profile(alloc: Global, slot: &mut Slot, index: u32, room: &mut [u8]) -> i64
     ensures told { OnReference (OnProfile index room.old room.new) (held_in slot.old) (held_in slot.new) result }
     ensures refused { result <ℤ pos 0 → room.new ≡ room.old }
 {
@@ -94,14 +88,7 @@ pub extern "C" fn lr_ior_profile(alloc: Global, slot: &mut Slot, index: u32, roo
 }
 
 /// Copies a part of a profile.
-#[unsafe(no_mangle)]
-pub extern "C" fn lr_ior_part(
-    alloc: Global,
-    slot: &mut Slot,
-    index: u32,
-    part: u32,
-    room: &mut [u8],
-) -> i64
+pub fn lr_ior_part(alloc: Global, slot: &mut Slot, index: u32, part: u32, room: &mut [u8]) -> i64
     ensures copied { OnReference (OnPart index part room.old room.new) (held_in slot.old) (held_in slot.new) result }
     ensures refused { result <ℤ pos 0 → room.new ≡ room.old }
 {
@@ -109,8 +96,7 @@ pub extern "C" fn lr_ior_part(
 }
 
 /// Copies a tagged component of a profile, and gives its tag.
-#[unsafe(no_mangle)]
-pub extern "C" fn lr_ior_component(
+pub fn lr_ior_component(
     alloc: Global,
     slot: &mut Slot,
     index: u32,

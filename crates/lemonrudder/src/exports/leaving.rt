@@ -9,8 +9,7 @@ use crate::slot::Slot;
 use std::alloc::Global;
 
 /// Why a connection ended: `LR_WHY_..`, or `LR_FAULT_..`.
-#[unsafe(no_mangle)]
-pub extern "C" fn lr_server_why(alloc: Global, slot: &mut Slot, connection: u64) -> i64
+pub fn lr_server_why(alloc: Global, slot: &mut Slot, connection: u64) -> i64
     ensures { OnServer (OnWhy connection) (held_in slot.old) (held_in slot.new) result }
 {
     slot.server(alloc, &mut |server| server.why(connection))

@@ -10,8 +10,7 @@ use crate::slot::Slot;
 use std::alloc::Global;
 
 /// Copies a service context of the request that waits, and gives its id.
-#[unsafe(no_mangle)]
-pub extern "C" fn lr_server_context(
+pub fn lr_server_context(
     alloc: Global,
     slot: &mut Slot,
     index: u32,
@@ -25,32 +24,28 @@ pub extern "C" fn lr_server_context(
 }
 
 /// How many wait for the outcome of a parked request, on connections that go on.
-#[unsafe(no_mangle)]
-pub extern "C" fn lr_server_wanted(alloc: Global, slot: &mut Slot, ticket: u64) -> i64
+pub fn lr_server_wanted(alloc: Global, slot: &mut Slot, ticket: u64) -> i64
     ensures { OnServer (OnWanted ticket) (held_in slot.old) (held_in slot.new) result }
 {
     slot.server(alloc, &mut |server| server.wanted(ticket))
 }
 
 /// A number for an operator: `LR_COUNT_..`.
-#[unsafe(no_mangle)]
-pub extern "C" fn lr_server_count(alloc: Global, slot: &mut Slot, what: u32) -> i64
+pub fn lr_server_count(alloc: Global, slot: &mut Slot, what: u32) -> i64
     ensures { OnServer (OnCount what) (held_in slot.old) (held_in slot.new) result }
 {
     slot.server(alloc, &mut |server| server.count(what))
 }
 
 /// How many outcomes are kept for a client, and places of outcomes that will come.
-#[unsafe(no_mangle)]
-pub extern "C" fn lr_server_held_by(alloc: Global, slot: &mut Slot, client: &[u8]) -> i64
+pub fn lr_server_held_by(alloc: Global, slot: &mut Slot, client: &[u8]) -> i64
     ensures { OnServer (OnHeldBy client.now) (held_in slot.old) (held_in slot.new) result }
 {
     slot.server(alloc, &mut |server| Ok(server.held_by(client)))
 }
 
 /// Says the least expiration under which something is kept.
-#[unsafe(no_mangle)]
-pub extern "C" fn lr_server_next_expiry(alloc: Global, slot: &mut Slot, moment: &mut u64) -> i64
+pub fn lr_server_next_expiry(alloc: Global, slot: &mut Slot, moment: &mut u64) -> i64
     ensures told { OnServer (OnNextExpiry moment.old moment.new) (held_in slot.old) (held_in slot.new) result }
     ensures none { result ≤ℤ pos 0 → moment.new ≡ moment.old }
 {
@@ -58,8 +53,7 @@ pub extern "C" fn lr_server_next_expiry(alloc: Global, slot: &mut Slot, moment: 
 }
 
 /// A moment has come.
-#[unsafe(no_mangle)]
-pub extern "C" fn lr_server_tick(alloc: Global, slot: &mut Slot, moment: u64) -> i64
+pub fn lr_server_tick(alloc: Global, slot: &mut Slot, moment: u64) -> i64
     ensures { OnServer (OnTick moment) (held_in slot.old) (held_in slot.new) result }
 {
     slot.server(alloc, &mut |server| server.tick(moment))

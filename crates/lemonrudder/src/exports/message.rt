@@ -8,8 +8,7 @@ use crate::refusal::number_of;
 use std::alloc::Global;
 
 /// Writes a Request to an object key.
-#[unsafe(no_mangle)]
-pub extern "C" fn lr_write_request(
+pub fn lr_write_request(
     alloc: Global,
     room: &mut [u8],
     version: u32,
@@ -40,8 +39,7 @@ pub extern "C" fn lr_write_request(
 }
 
 /// Writes a Reply without service contexts.
-#[unsafe(no_mangle)]
-pub extern "C" fn lr_write_reply(
+pub fn lr_write_reply(
     alloc: Global,
     room: &mut [u8],
     version: u32,
@@ -59,8 +57,7 @@ pub extern "C" fn lr_write_reply(
 }
 
 /// Writes a CancelRequest.
-#[unsafe(no_mangle)]
-pub extern "C" fn lr_write_cancel(room: &mut [u8], version: u32, order: u32, request_id: u32) -> i64
+pub fn lr_write_cancel(room: &mut [u8], version: u32, order: u32, request_id: u32) -> i64
     ensures { Writes (manner version order (λ v o. cancel v o request_id)) room.old room.new result }
 {
     match Manner::new(version, order) {
@@ -70,8 +67,7 @@ pub extern "C" fn lr_write_cancel(room: &mut [u8], version: u32, order: u32, req
 }
 
 /// Writes a LocateRequest of an object key.
-#[unsafe(no_mangle)]
-pub extern "C" fn lr_write_locate_request(
+pub fn lr_write_locate_request(
     alloc: Global,
     room: &mut [u8],
     version: u32,
@@ -88,8 +84,7 @@ pub extern "C" fn lr_write_locate_request(
 }
 
 /// Writes a LocateReply without a body.
-#[unsafe(no_mangle)]
-pub extern "C" fn lr_write_locate_reply(
+pub fn lr_write_locate_reply(
     room: &mut [u8],
     version: u32,
     order: u32,
@@ -105,24 +100,21 @@ pub extern "C" fn lr_write_locate_reply(
 }
 
 /// Writes CloseConnection.
-#[unsafe(no_mangle)]
-pub extern "C" fn lr_write_close(room: &mut [u8]) -> i64
+pub fn lr_write_close(room: &mut [u8]) -> i64
     ensures { Writes (bare kind.CloseConnection) room.old room.new result }
 {
     number_of(close(room))
 }
 
 /// Writes MessageError.
-#[unsafe(no_mangle)]
-pub extern "C" fn lr_write_error(room: &mut [u8]) -> i64
+pub fn lr_write_error(room: &mut [u8]) -> i64
     ensures { Writes (bare kind.MessageError) room.old room.new result }
 {
     number_of(error(room))
 }
 
 /// Writes the data of an FT_REQUEST context.
-#[unsafe(no_mangle)]
-pub extern "C" fn lr_write_ft(
+pub fn lr_write_ft(
     alloc: Global,
     room: &mut [u8],
     order: u32,

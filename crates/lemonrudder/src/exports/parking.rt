@@ -11,32 +11,28 @@ use crate::slot::Slot;
 use std::alloc::Global;
 
 /// Parks the request that waits.
-#[unsafe(no_mangle)]
-pub extern "C" fn lr_server_park(alloc: Global, slot: &mut Slot, ticket: u64) -> i64
+pub fn lr_server_park(alloc: Global, slot: &mut Slot, ticket: u64) -> i64
     ensures { OnServer (OnPark ticket) (held_in slot.old) (held_in slot.new) result }
 {
     slot.server(alloc, &mut |server| server.park(ticket))
 }
 
 /// How many requests are parked.
-#[unsafe(no_mangle)]
-pub extern "C" fn lr_server_parked(alloc: Global, slot: &mut Slot) -> i64
+pub fn lr_server_parked(alloc: Global, slot: &mut Slot) -> i64
     ensures { OnServer OnParked (held_in slot.old) (held_in slot.new) result }
 {
     slot.server(alloc, &mut |server| Ok(server.parked()))
 }
 
 /// How many of the parked requests came on a connection.
-#[unsafe(no_mangle)]
-pub extern "C" fn lr_server_parked_of(alloc: Global, slot: &mut Slot, connection: u64) -> i64
+pub fn lr_server_parked_of(alloc: Global, slot: &mut Slot, connection: u64) -> i64
     ensures { OnServer (OnParkedOf connection) (held_in slot.old) (held_in slot.new) result }
 {
     slot.server(alloc, &mut |server| Ok(server.parked_of(connection)))
 }
 
 /// Names a connection on which octets came due that no call on it brought.
-#[unsafe(no_mangle)]
-pub extern "C" fn lr_server_next_due(alloc: Global, slot: &mut Slot, connection: &mut u64) -> i64
+pub fn lr_server_next_due(alloc: Global, slot: &mut Slot, connection: &mut u64) -> i64
     ensures does { OnServer (OnNextDue connection.old connection.new) (held_in slot.old) (held_in slot.new) result }
     ensures connection { HasNoServer (held_in slot.old) → connection.new ≡ connection.old }
 {

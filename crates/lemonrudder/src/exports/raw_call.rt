@@ -10,8 +10,7 @@ use crate::slot::Slot;
 use std::alloc::Global;
 
 /// Calls an operation of an object by a body of octets, and answers the number of the call.
-#[unsafe(no_mangle)]
-pub extern "C" fn lr_client_call_raw(
+pub fn lr_client_call_raw(
     alloc: Global,
     slot: &mut Slot,
     now: u64,
@@ -40,8 +39,7 @@ pub extern "C" fn lr_client_call_raw(
 }
 
 /// Takes a raw call of before up again, under its own number.
-#[unsafe(no_mangle)]
-pub extern "C" fn lr_client_recall_raw(
+pub fn lr_client_recall_raw(
     alloc: Global,
     slot: &mut Slot,
     call: i64,
@@ -71,8 +69,7 @@ pub extern "C" fn lr_client_recall_raw(
 }
 
 /// Asks under another object key, by a body of octets, for a call that is led elsewhere.
-#[unsafe(no_mangle)]
-pub extern "C" fn lr_client_redirect_raw(
+pub fn lr_client_redirect_raw(
     alloc: Global,
     slot: &mut Slot,
     call: i64,

@@ -10,8 +10,7 @@ use crate::slot::Slot;
 use std::alloc::Global;
 
 /// Whether results would be taken.
-#[unsafe(no_mangle)]
-pub extern "C" fn lr_server_can_answer(
+pub fn lr_server_can_answer(
     alloc: Global,
     slot: &mut Slot,
     ticket: u64,
@@ -27,8 +26,7 @@ pub extern "C" fn lr_server_can_answer(
 }
 
 /// Writes the body that raises an exception.
-#[unsafe(no_mangle)]
-pub extern "C" fn lr_server_exception(
+pub fn lr_server_exception(
     alloc: Global,
     slot: &mut Slot,
     ticket: u64,
@@ -47,8 +45,7 @@ pub extern "C" fn lr_server_exception(
 }
 
 /// Says service contexts of the replies that the next answer of a ticket makes due.
-#[unsafe(no_mangle)]
-pub extern "C" fn lr_server_reply_contexts(
+pub fn lr_server_reply_contexts(
     alloc: Global,
     slot: &mut Slot,
     ticket: u64,

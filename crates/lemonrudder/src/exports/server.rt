@@ -55,8 +55,7 @@ fn opened(alloc: Global, catalogue: &mut Slot, seed: Seed) -> Result<Box<Object>
 }
 
 /// Opens a server of the objects of a catalogue, which is empty afterwards.
-#[unsafe(no_mangle)]
-pub extern "C" fn lr_server_open(
+pub fn lr_server_open(
     alloc: Global,
     slot: &mut Slot,
     catalogue: &mut Slot,
@@ -82,8 +81,7 @@ pub extern "C" fn lr_server_open(
 }
 
 /// Sets a limit of a server, before its first connection.
-#[unsafe(no_mangle)]
-pub extern "C" fn lr_server_set(alloc: Global, slot: &mut Slot, what: u32, value: u64) -> i64
+pub fn lr_server_set(alloc: Global, slot: &mut Slot, what: u32, value: u64) -> i64
     ensures { OnServer (OnSet what value) (held_in slot.old) (held_in slot.new) result }
 {
     slot.server(alloc, &mut |server| server.set(what, value))
@@ -102,8 +100,7 @@ fn swapped(alloc: Global, object: &mut Object, catalogue: &mut Slot) -> i64
 }
 
 /// Exchanges what a server has on offer and a catalogue.
-#[unsafe(no_mangle)]
-pub extern "C" fn lr_server_swap(alloc: Global, slot: &mut Slot, catalogue: &mut Slot) -> i64
+pub fn lr_server_swap(alloc: Global, slot: &mut Slot, catalogue: &mut Slot) -> i64
     ensures { OnServerAndCatalogue OnSwap (held_in slot.old) (held_in slot.new) (held_in catalogue.old) (held_in catalogue.new) result }
 {
     let Some(mut object) = slot.take(alloc) else {
@@ -115,40 +112,35 @@ pub extern "C" fn lr_server_swap(alloc: Global, slot: &mut Slot, catalogue: &mut
 }
 
 /// Opens a connection.
-#[unsafe(no_mangle)]
-pub extern "C" fn lr_server_connect(alloc: Global, slot: &mut Slot, connection: u64) -> i64
+pub fn lr_server_connect(alloc: Global, slot: &mut Slot, connection: u64) -> i64
     ensures { OnServer (OnConnect connection) (held_in slot.old) (held_in slot.new) result }
 {
     slot.server(alloc, &mut |server| server.connect(connection))
 }
 
 /// Forgets a connection that is gone.
-#[unsafe(no_mangle)]
-pub extern "C" fn lr_server_lost(alloc: Global, slot: &mut Slot, connection: u64) -> i64
+pub fn lr_server_lost(alloc: Global, slot: &mut Slot, connection: u64) -> i64
     ensures { OnServer (OnLost connection) (held_in slot.old) (held_in slot.new) result }
 {
     slot.server(alloc, &mut |server| server.lost(connection))
 }
 
 /// Says goodbye on a connection.
-#[unsafe(no_mangle)]
-pub extern "C" fn lr_server_farewell(alloc: Global, slot: &mut Slot, connection: u64) -> i64
+pub fn lr_server_farewell(alloc: Global, slot: &mut Slot, connection: u64) -> i64
     ensures { OnServer (OnFarewell connection) (held_in slot.old) (held_in slot.new) result }
 {
     slot.server(alloc, &mut |server| server.farewell(connection))
 }
 
 /// Whether what comes on a connection has no meaning.
-#[unsafe(no_mangle)]
-pub extern "C" fn lr_server_is_closed(alloc: Global, slot: &mut Slot, connection: u64) -> i64
+pub fn lr_server_is_closed(alloc: Global, slot: &mut Slot, connection: u64) -> i64
     ensures { OnServer (OnIsClosed connection) (held_in slot.old) (held_in slot.new) result }
 {
     slot.server(alloc, &mut |server| Ok(server.is_closed(connection)))
 }
 
 /// Takes octets of a connection, and answers how many.
-#[unsafe(no_mangle)]
-pub extern "C" fn lr_server_feed(
+pub fn lr_server_feed(
     alloc: Global,
     slot: &mut Slot,
     connection: u64,
@@ -161,8 +153,7 @@ pub extern "C" fn lr_server_feed(
 }
 
 /// Says what waits: `lr_request`.
-#[unsafe(no_mangle)]
-pub extern "C" fn lr_server_asked(alloc: Global, slot: &mut Slot, room: &mut [u8]) -> i64
+pub fn lr_server_asked(alloc: Global, slot: &mut Slot, room: &mut [u8]) -> i64
     ensures does { OnServer (OnAsked room.old room.new) (held_in slot.old) (held_in slot.new) result }
     ensures none { result ≤ℤ pos 0 → room.new ≡ room.old }
 {
@@ -170,8 +161,7 @@ pub extern "C" fn lr_server_asked(alloc: Global, slot: &mut Slot, room: &mut [u8
 }
 
 /// Copies a part of the request of a ticket, which waits or is parked.
-#[unsafe(no_mangle)]
-pub extern "C" fn lr_server_part(
+pub fn lr_server_part(
     alloc: Global,
     slot: &mut Slot,
     ticket: u64,
@@ -185,8 +175,7 @@ pub extern "C" fn lr_server_part(
 }
 
 /// Answers by results.
-#[unsafe(no_mangle)]
-pub extern "C" fn lr_server_answer(
+pub fn lr_server_answer(
     alloc: Global,
     slot: &mut Slot,
     ticket: u64,
@@ -199,8 +188,7 @@ pub extern "C" fn lr_server_answer(
 }
 
 /// Answers by an exception that the operation declares.
-#[unsafe(no_mangle)]
-pub extern "C" fn lr_server_raise(
+pub fn lr_server_raise(
     alloc: Global,
     slot: &mut Slot,
     ticket: u64,
@@ -217,8 +205,7 @@ pub extern "C" fn lr_server_raise(
 }
 
 /// Answers by a system exception.
-#[unsafe(no_mangle)]
-pub extern "C" fn lr_server_system(
+pub fn lr_server_system(
     alloc: Global,
     slot: &mut Slot,
     ticket: u64,
@@ -235,8 +222,7 @@ pub extern "C" fn lr_server_system(
 }
 
 /// Answers a raw operation.
-#[unsafe(no_mangle)]
-pub extern "C" fn lr_server_answer_raw(
+pub fn lr_server_answer_raw(
     alloc: Global,
     slot: &mut Slot,
     ticket: u64,
@@ -253,8 +239,7 @@ pub extern "C" fn lr_server_answer_raw(
 }
 
 /// Answers by an outcome that its owner has stored, and keeps nothing.
-#[unsafe(no_mangle)]
-pub extern "C" fn lr_server_answer_unkept(
+pub fn lr_server_answer_unkept(
     alloc: Global,
     slot: &mut Slot,
     ticket: u64,
@@ -271,51 +256,35 @@ pub extern "C" fn lr_server_answer_unkept(
 }
 
 /// Answers `_is_a` and `_non_existent`.
-#[unsafe(no_mangle)]
-pub extern "C" fn lr_server_identify(alloc: Global, slot: &mut Slot, ticket: u64) -> i64
+pub fn lr_server_identify(alloc: Global, slot: &mut Slot, ticket: u64) -> i64
     ensures { OnServer (OnIdentify ticket) (held_in slot.old) (held_in slot.new) result }
 {
     slot.server(alloc, &mut |server| server.identify(ticket))
 }
 
 /// Gives up the request that waits.
-#[unsafe(no_mangle)]
-pub extern "C" fn lr_server_give_up(alloc: Global, slot: &mut Slot, ticket: u64) -> i64
+pub fn lr_server_give_up(alloc: Global, slot: &mut Slot, ticket: u64) -> i64
     ensures { OnServer (OnGiveUp ticket) (held_in slot.old) (held_in slot.new) result }
 {
     slot.server(alloc, &mut |server| server.give_up(ticket))
 }
 
 /// Refuses the request of a ticket, for now.
-#[unsafe(no_mangle)]
-pub extern "C" fn lr_server_refuse(
-    alloc: Global,
-    slot: &mut Slot,
-    ticket: u64,
-    name: u32,
-    minor: u32,
-) -> i64
+pub fn lr_server_refuse(alloc: Global, slot: &mut Slot, ticket: u64, name: u32, minor: u32) -> i64
     ensures { OnServer (OnRefuse ticket name minor) (held_in slot.old) (held_in slot.new) result }
 {
     slot.server(alloc, &mut |server| server.refuse(ticket, name, minor))
 }
 
 /// Gives up the request that waits, and says goodbye first.
-#[unsafe(no_mangle)]
-pub extern "C" fn lr_server_goodbye(alloc: Global, slot: &mut Slot, ticket: u64) -> i64
+pub fn lr_server_goodbye(alloc: Global, slot: &mut Slot, ticket: u64) -> i64
     ensures { OnServer (OnGoodbye ticket) (held_in slot.old) (held_in slot.new) result }
 {
     slot.server(alloc, &mut |server| server.goodbye(ticket))
 }
 
 /// Moves octets that are due on a connection into a room.
-#[unsafe(no_mangle)]
-pub extern "C" fn lr_server_output(
-    alloc: Global,
-    slot: &mut Slot,
-    connection: u64,
-    room: &mut [u8],
-) -> i64
+pub fn lr_server_output(alloc: Global, slot: &mut Slot, connection: u64, room: &mut [u8]) -> i64
     ensures does { OnServer (OnOutput connection room.old room.new) (held_in slot.old) (held_in slot.new) result }
     ensures room { HasNoServer (held_in slot.old) → room.new ≡ room.old }
 {

@@ -15,14 +15,14 @@ const FULL: u32 = 1;
 
 impl Slot {
     /// Whether there is no object.
-    pub fn is_empty(&self) -> bool
+    pub(crate) fn is_empty(&self) -> bool
         ensures { result ≡ not (is_held (held_in self.now)) }
     {
         self.kind == 0
     }
 
     /// Takes the object out.
-    pub fn take(&mut self, alloc: Global) -> Option<Box<Object>>
+    pub(crate) fn take(&mut self, alloc: Global) -> Option<Box<Object>>
         ensures taken { in_box result ≡ held_in self.old }
         ensures left { held_in self.new ≡ None }
     {
@@ -38,7 +38,7 @@ impl Slot {
     }
 
     /// Puts an object into an empty slot.
-    pub fn put(&mut self, object: Box<Object>)
+    pub(crate) fn put(&mut self, object: Box<Object>)
         requires { held_in self.old ≡ None }
         ensures { held_in self.new ≡ Some object.value }
     {

@@ -18,7 +18,7 @@ use std::alloc::Global;
 impl Slot {
     /// Calls `call` on a server, and answers its number.
     #[inline(always)]
-    pub fn server<F: FnMut(&mut Serving) -> Result<u64, Refusal>>(
+    pub(crate) fn server<F: FnMut(&mut Serving) -> Result<u64, Refusal>>(
         &mut self,
         alloc: Global,
         call: &mut F,
@@ -40,7 +40,7 @@ impl Slot {
 
     /// Calls `call` on a catalogue, and answers its number.
     #[inline(always)]
-    pub fn catalogue<F: FnMut(&mut Cataloguing) -> Result<u64, Refusal>>(
+    pub(crate) fn catalogue<F: FnMut(&mut Cataloguing) -> Result<u64, Refusal>>(
         &mut self,
         alloc: Global,
         call: &mut F,
@@ -62,7 +62,7 @@ impl Slot {
 
     /// Calls `call` on a client, and answers its number.
     #[inline(always)]
-    pub fn client<F: FnMut(&mut Calling) -> Result<u64, Refusal>>(
+    pub(crate) fn client<F: FnMut(&mut Calling) -> Result<u64, Refusal>>(
         &mut self,
         alloc: Global,
         call: &mut F,
@@ -84,7 +84,7 @@ impl Slot {
 
     /// Calls `call` on an assembler, and answers its number.
     #[inline(always)]
-    pub fn assembler<F: FnMut(&mut Assembling) -> Result<u64, Refusal>>(
+    pub(crate) fn assembler<F: FnMut(&mut Assembling) -> Result<u64, Refusal>>(
         &mut self,
         alloc: Global,
         call: &mut F,
@@ -106,7 +106,7 @@ impl Slot {
 
     /// Calls `call` on a reference, and answers its number.
     #[inline(always)]
-    pub fn reference<F: FnMut(&mut Referring) -> Result<u64, Refusal>>(
+    pub(crate) fn reference<F: FnMut(&mut Referring) -> Result<u64, Refusal>>(
         &mut self,
         alloc: Global,
         call: &mut F,

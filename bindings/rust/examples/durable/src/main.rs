@@ -30,6 +30,7 @@ const DEPOSIT: Signature = Signature {
     ..BALANCE
 };
 const TRANSIENT: &str = "IDL:omg.org/CORBA/TRANSIENT:1.0";
+const BAD_CONTEXT: &str = "IDL:omg.org/CORBA/BAD_CONTEXT:1.0";
 const MOST_GROUPED: usize = 256;
 const MOST_NAME: usize = 31;
 const MOST_TRIES: u32 = 4;
@@ -94,7 +95,7 @@ impl Bank {
         match end {
             End::Refused(name) => self.server.refuse(ticket, *name, 0),
             End::Known(outcome) => self.server.answer_unkept(ticket, outcome),
-            End::Unknown => self.server.answer_unkept(ticket, &unknown()?),
+            End::Unknown => self.server.answer_unkept(ticket, &maybe(TRANSIENT)?),
         }
     }
 }
@@ -117,17 +118,17 @@ impl Servant for Bank {
                     _ = jobs.send(job);
                     Ok(())
                 }
-                Err(_) if key.is_some() => request.answer_unkept(&unknown()?),
+                Err(_) if key.is_some() => request.answer_unkept(&maybe(TRANSIENT)?),
                 Err(_) => request.refuse(SystemName::Transient, 0),
             }
         })
     }
 }
 
-/// TRANSIENT, COMPLETED_MAYBE.
-fn unknown() -> Result<Outcome, Error> {
+/// A system exception, COMPLETED_MAYBE: where nobody can know, TRANSIENT.
+fn maybe(id: &str) -> Result<Outcome, Error> {
     let mut body = Writer::new(lemonrudder::Order::Big);
-    body.string(TRANSIENT)?.ulong(0)?.ulong(Completed::Maybe as u32)?;
+    body.string(id)?.ulong(0)?.ulong(Completed::Maybe as u32)?;
     Ok(Outcome { status: Status::SystemException, order: body.order(), body: body.into_octets() })
 }
 
@@ -167,6 +168,10 @@ fn perform(store: &mut Store, job: &mut Job) -> Result<End, Failure> {
         }
         job.is_sure = true;
         reach("looked");
+        // (where it was perhaps committed before, perhaps it was performed)
+        if store.is_forgotten(key) && job.is_in_doubt {
+            return Ok(End::Known(maybe(BAD_CONTEXT)?));
+        }
         if store.is_forgotten(key) {
             return Ok(End::Refused(SystemName::BadContext));
         }

@@ -1,24 +1,24 @@
-use Rattle.std.proofs.Common.{[], ◌∷◌}
-use Rattle.ft_orb.specs.History.{Lost, Opened, Piece}
+use Rattle.std.proofs.Common.{◌≡◌, []}
+use Rattle.std.proofs.lemmas.Result.{IfOk-weaker}
+use Rattle.giop_frames.specs.declared.limits.Limits.{Limits}
+use Rattle.ft_orb.specs.Standing.{Stands}
 use Rattle.uses.specs.Serving.{first_output, second_output, tickets_made}
-use Rattle.uses.proofs.Served.{appended, as_made}
+use Rattle.uses.specs.Tickets.{tickets_meaning}
+use Rattle.uses.proofs.Served.{as_made}
 use Rattle.uses.proofs.serving.serve_once.Goals as goal
 
 pub returns-clause-first : goal.returns-clause-first
 returns-clause-first c =
-    let made = tickets_made c.args.limits in
     let start = as_made c.args.limits c.in_ok-tickets.tickets c.new-server.result c.in_ok-tickets.ensures c.new-server.ensures.stands in
-    let opened = (c.in_ok-connect.ensures.table made [] start).1 in
-    let fed = c.in_ok-feed.ensures.table made (Opened 1 ∷ []) opened in
-    appended c.feed.new.out.items c.new-first.result.items fed.0 (first_output c.args.limits c.args.octets.now) c.new-first.ensures.items fed.1 fed.2.0
+    IfOk-weaker c.serve_twice.result
+    (λ w. (limits : Limits) → Stands tickets_meaning (tickets_made limits) c.new-server.result [] → w.0.items ≡ first_output limits c.args.octets.now)
+    (λ w. w.0.items ≡ first_output c.args.limits c.args.octets.now)
+    (λ w is. is c.args.limits start) c.serve_twice.ensures.first
 
 pub returns-clause-second : goal.returns-clause-second
 returns-clause-second c =
-    let made = tickets_made c.args.limits in
     let start = as_made c.args.limits c.in_ok-tickets.tickets c.new-server.result c.in_ok-tickets.ensures c.new-server.ensures.stands in
-    let opened = (c.in_ok-connect.ensures.table made [] start).1 in
-    let fed = c.in_ok-feed.ensures.table made (Opened 1 ∷ []) opened in
-    let lost = c.lost.ensures.table made (Piece 1 50 c.args.octets.now ∷ Opened 1 ∷ []) fed.3 in
-    let again = (c.in_ok-connect-2.ensures.table made (Lost 1 ∷ Piece 1 50 c.args.octets.now ∷ Opened 1 ∷ []) lost).1 in
-    let repeat = c.in_ok-feed-2.ensures.table made (Opened 2 ∷ Lost 1 ∷ Piece 1 50 c.args.octets.now ∷ Opened 1 ∷ []) again in
-    appended c.feed-2.new.out.items c.new-second.result.items repeat.0 (second_output c.args.limits c.args.octets.now) c.new-second.ensures.items repeat.1 repeat.2.0
+    IfOk-weaker c.serve_twice.result
+    (λ w. (limits : Limits) → Stands tickets_meaning (tickets_made limits) c.new-server.result [] → w.1.items ≡ second_output limits c.args.octets.now)
+    (λ w. w.1.items ≡ second_output c.args.limits c.args.octets.now)
+    (λ w is. is c.args.limits start) c.serve_twice.ensures.second

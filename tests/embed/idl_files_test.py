@@ -1,0 +1,459 @@
+"""Tests what the backend of idl/lemonrudder makes of IDL as systems have it: all of omniORB's files, and random ones.
+
+What is made compiles in each language without a warning. A store with interfaces that inherit over several levels, a
+type that holds itself, and an operation by octets is served and called in each language, against omniORB.
+"""
+from __future__ import annotations
+
+import asyncio
+import glob
+import os
+import re
+import subprocess
+import sys
+import tempfile
+import unittest
+from collections.abc import Iterable
+from typing import Any
+
+from scripts.library import VERSION
+from tests import base
+from tests.embed import idl_random, idl_rust_test, idl_test
+from tests.embed.idl_c_test import words_of
+from tests.embed.idl_rust_test import KIT, MANIFEST, TOKIO
+from tests.embed.idl_test import EMBED, FOLDER, LANGUAGES, compiled, lr, made, omniorb_program, run, serving
+from tests.programs import NEEDS, ROOT, needs, tool
+
+# where Debian's package omniorb-idl puts omniORB's files
+OMNIORB = "/usr/share/idl/omniORB"
+FOLDERS = (OMNIORB, os.path.join(OMNIORB, "COS"))
+# how many of them the front end of omniidl takes
+TAKEN = 61
+# .. what declares all that another one declares
+TWICE = "Naming"
+# how many random files a seed stands for
+COUNT = 8
+OF_C = ["-std=c11", "-Wall", "-Wextra", "-Wpedantic", "-Wshadow", "-Wconversion"]
+OF_CPP = ["-std=c++17", "-Wall", "-Wextra"]
+OF_HEADERS = ["-std=c++11", "-Wall", "-Wextra", "-Wpedantic"]
+ALLOWED = "#![allow(dead_code)]\n"
+
+
+def omniidl(paths: Iterable[str], folder: str, *words: str) -> subprocess.CompletedProcess[str]:
+    """A run of the backend on files, which may include omniORB's and each other."""
+    found = [f"-I{each}" for each in (*FOLDERS, os.path.dirname(folder))]
+    command = [tool("omniidl"), *found, "-p", os.path.join(ROOT, "idl"), "-blemonrudder", *words, f"-Wbfolder={folder}"]
+    return subprocess.run([*command, *paths], capture_output=True, text=True, timeout=idl_test.SECONDS, check=False)
+
+
+def want_files() -> None:
+    """Skips where omniORB's files are not there."""
+    if not os.path.isdir(OMNIORB):
+        raise unittest.SkipTest(NEEDS + "omniorb-idl")
+
+
+class Judge:
+    """What a compiler says of all that was made in a folder: nothing."""
+
+    def __init__(self, folder: str) -> None:
+        self.folder = folder
+
+    def names(self, end: str, *but: str) -> list[str]:
+        found = (os.path.basename(path) for path in glob.glob(os.path.join(self.folder, f"*_idl{end}")))
+        return sorted(name for name in found if name[:-len("_idl" + end)] not in ("lemonrudder", *but))
+
+    def compiles(self, compiler: str, end: str, flags: list[str], *but: str) -> None:
+        """One source includes all sources or headers, but for some."""
+        source = os.path.join(self.folder, f"all{end.replace('h', 'c')}")
+        with open(source, "w", encoding="ascii") as file:
+            file.writelines(f'#include "{name}"\n' for name in self.names(end, *but))
+        run(tool(compiler), *flags, "-Werror", f"-I{os.path.join(ROOT, 'embed', 'include')}", "-fsyntax-only", source)
+
+    def python(self) -> None:
+        """Each module and package is imported, and mypy has nothing to say."""
+        packages = glob.glob(os.path.join(self.folder, "**", "__init__.py"), recursive=True)
+        modules = [os.path.relpath(os.path.dirname(path), self.folder).replace(os.sep, ".") for path in packages]
+        modules += [name[:-3] for name in self.names(".py")]
+        path = os.path.join(ROOT, "bindings", "python")
+        each = "import importlib, sys\nfor name in sys.argv[1:]: importlib.import_module(name)"
+        run(sys.executable, "-c", each, *modules, cwd=self.folder, env={
+            **os.environ, "PYTHONPATH": os.pathsep.join([self.folder, path])})
+        run(tool("mypy"), "--strict", "--no-error-summary", "--cache-dir", os.path.join(self.folder, ".cache"),
+            *(word for module in modules for word in ("-m", module)), cwd=self.folder,
+            env={**os.environ, "MYPYPATH": path})
+
+    def rust(self, name: str) -> None:
+        """A crate of all modules has nothing that clippy speaks of."""
+        folder = os.path.join(self.folder, "crate")
+        os.makedirs(os.path.join(folder, "src"))
+        for source in self.names(".rs"):
+            os.rename(os.path.join(self.folder, source), os.path.join(folder, "src", source))
+        with open(os.path.join(folder, "Cargo.toml"), "w", encoding="ascii") as file:
+            file.write(MANIFEST.format(name=name, root=ROOT))
+        modules = (os.path.basename(path)[:-3] for path in sorted(glob.glob(os.path.join(folder, "src", "*.rs"))))
+        with open(os.path.join(folder, "src", "lib.rs"), "w", encoding="ascii") as file:
+            file.write(ALLOWED + "".join(f"pub mod {module};\n" for module in modules))
+        KIT.cargo(folder, "clippy", "--", "-D", "warnings", "-D", "unsafe-code")
+
+
+@needs("omniidl", "gcc", "g++", "clang++", "mypy", "cargo-clippy")
+class OmniOrb(unittest.TestCase):
+    """All files of omniORB that the front end takes, with -Wbpartial."""
+
+    @classmethod
+    def setUpClass(cls) -> None:
+        want_files()
+        top = tempfile.TemporaryDirectory(prefix="idl_files")
+        cls.addClassCleanup(top.cleanup)
+        cls.folder = os.path.join(top.name, "made")
+        cls.judge = Judge(cls.folder)
+        paths = [path for folder in FOLDERS for path in sorted(glob.glob(os.path.join(folder, "*.idl")))]
+        words = [tool("omniidl"), *(f"-I{folder}" for folder in FOLDERS)]
+        # (two of them end the front end by a signal)
+        cls.taken = [path for path in paths if subprocess.run([*words, path], capture_output=True, check=False,
+                                                              timeout=idl_test.SECONDS).returncode == 0]
+        cls.ran = omniidl(cls.taken, cls.folder, "-Wbpartial," + ",".join(LANGUAGES))
+
+    def test_taken(self) -> None:
+        """Each is taken, and of what is left out there is a line."""
+        self.assertEqual(len(self.taken), TAKEN)
+        self.assertEqual(self.ran.returncode, 0, self.ran.stderr)
+        self.assertEqual(len(self.judge.names(".py")), TAKEN)
+        self.assertIn(os.path.join(FOLDERS[1], "CosEventComm.idl:17: Warning: any: the operation is a raw one"),
+                      self.ran.stderr)
+
+    def test_c(self) -> None:
+        """All sources in C compile."""
+        self.judge.compiles("gcc", ".c", OF_C, TWICE)
+
+    @base.each(lambda: [(name, name) for name in ("g++", "clang++")])
+    def test_cpp(self, compiler: str) -> None:
+        """All headers in C++ compile."""
+        self.judge.compiles(compiler, ".hpp", OF_CPP, TWICE)
+
+    def test_python(self) -> None:
+        """All modules of Python are imported, and have their types."""
+        self.judge.python()
+
+    def test_rust(self) -> None:
+        """All modules of Rust compile."""
+        self.judge.rust("omniorb-files")
+
+
+@needs("omniidl", "gcc", "g++", "clang++", "mypy", "cargo-clippy")
+class Random(unittest.TestCase):
+    """Random files, with -Wbpartial: interfaces of five levels, all kinds of types, words of each language."""
+
+    @base.each_seed(1, 1)
+    def test_random(self, seed: int) -> None:
+        """They are taken, and compile in each language."""
+        want_files()
+        with tempfile.TemporaryDirectory(prefix="idl_random") as top:
+            files, folder = idl_random.random_files(seed, COUNT), os.path.join(top, "made")
+            for file in files:
+                with open(os.path.join(top, f"{file.name}.idl"), "w", encoding="ascii") as written:
+                    written.write(file.text)
+            paths = [os.path.join(top, f"{file.name}.idl") for file in files]
+            ran = omniidl(paths, folder, "-Wbpartial," + ",".join(LANGUAGES))
+            self.assertEqual(ran.returncode, 0, ran.stderr)
+            judge = Judge(folder)
+            judge.python()
+            judge.compiles("gcc", ".c", OF_C)
+            judge.compiles("g++", ".h", OF_HEADERS)
+            for compiler in ("g++", "clang++"):
+                judge.compiles(compiler, ".hpp", OF_CPP)
+            judge.rust("random-files")
+
+
+# ---- the store ----
+
+STORE = """
+module Store {
+  struct Node;
+  typedef sequence<Node> Nodes;
+  struct Node { string name; Nodes children; };
+  exception Missing { string name; };
+  interface Named { readonly attribute string name; };
+  interface Box : Named { Node keep(in Node tree) raises (Missing); };
+  interface Deep : Named, Box {
+    any put(in any value) raises (Missing);
+    long call(in long call);
+  };
+};
+"""
+PYTHON = '''"""The store in Python: a server, and a client that prints what it is answered."""
+import asyncio
+import signal
+import sys
+
+import lemonrudder as lr
+from Store import Deep, Missing, Node
+from Store__POA import Deep as DeepServant
+from lemonrudder import idl
+
+TK_LONG = 3
+
+
+class Own(DeepServant):
+    def _get_name(self) -> str:
+        return "deep"
+
+    async def keep(self, tree: Node) -> Node:
+        if not tree.name:
+            raise Missing("none")
+        return Node(tree.name + "!", tree.children)
+
+    def put(self, body: idl.Body) -> idl.RawReply:
+        kind, number = body.unpack("Ll")
+        if kind != TK_LONG:
+            raise lr.Refuse("MARSHAL")
+        if number < 0:
+            octets = lr.pack("ss", Missing._id, "below")
+            return idl.RawReply(octets, status=lr.ReplyStatus.USER_EXCEPTION)
+        return idl.RawReply(lr.pack("Ll", TK_LONG, number + 1))
+
+    def call(self, call: int) -> int:
+        return call + 1
+
+
+async def serve() -> None:
+    stop = asyncio.Event()
+    asyncio.get_running_loop().add_signal_handler(signal.SIGTERM, stop.set)
+    async with lr.Server() as server:
+        idl.add(server, "deep", Own())
+        await server.listen("127.0.0.1")
+        print(server.reference("deep"), flush=True)
+        await stop.wait()
+
+
+async def put(deep: Deep, number: int) -> None:
+    try:
+        print((await deep.put(lr.pack("Ll", TK_LONG, number))).unpack("Ll")[1])
+    except lr.UserException as raised:
+        assert raised.body is not None
+        print("missing", raised.body.unpack("s")[0])
+
+
+async def ask(reference: str) -> None:
+    async with Deep._of(reference) as deep:
+        print(await deep._get_name())
+        kept = await deep.keep(Node("a", [Node("", []), Node("b", [Node("c", [])])]))
+        print(kept.name, len(kept.children), kept.children[1].children[0].name)
+        try:
+            await deep.keep(Node("", []))
+        except Missing as raised:
+            print("missing", raised.name)
+        await put(deep, 5)
+        await put(deep, -1)
+        print(await deep.call(4))
+
+
+asyncio.run(ask(sys.argv[2]) if len(sys.argv) == 3 else serve())
+'''
+SAID = ["deep", "a! 2 c", "missing none", "6", "missing below", "5"]
+ENDPOINT = ("-ORBendPoint", "giop:tcp:127.0.0.1:")
+
+
+def source(name: str) -> str:
+    return os.path.join(EMBED, f"idl_store{name}")
+
+
+def in_python() -> list[str]:
+    """The words that run the store in Python."""
+    path = os.path.join(FOLDER.name, "store.py")
+    with open(path, "w", encoding="ascii") as file:
+        file.write(PYTHON)
+    found = os.pathsep.join([FOLDER.name, os.path.join(ROOT, "bindings", "python")])
+    run(tool("mypy"), "--strict", path, env={**os.environ, "MYPYPATH": found})
+    return ["env", f"PYTHONPATH={found}", sys.executable, path]
+
+
+def in_cpp() -> list[str]:
+    return [compiled("g++", "store_cpp", source(".cpp"))]
+
+
+def in_c() -> list[str]:
+    return words_of("gcc, sanitized", "store_c", source(".c"), flags=[os.path.join(FOLDER.name, "store_idl.c")])
+
+
+def in_rust() -> list[str]:
+    idl_rust_test.want_tokio()
+    with open(source(".rs"), encoding="utf-8") as file:
+        folder = KIT.package("store", file.read(), TOKIO)
+    os.rename(os.path.join(FOLDER.name, "store_idl.rs"), os.path.join(folder, "src", "store_idl.rs"))
+    return [KIT.built(folder, "store")]
+
+
+WAYS = {"Python": in_python, "C++": in_cpp, "C": in_c, "Rust": in_rust}
+
+
+@needs("omniidl", "g++", "gcc", "mypy", "cargo-clippy")
+class Store(unittest.TestCase):
+    """A store in each language, and over omniORB."""
+
+    @classmethod
+    def setUpClass(cls) -> None:
+        path = os.path.join(FOLDER.name, "store.idl")
+        with open(path, "w", encoding="ascii") as file:
+            file.write(STORE)
+        ran = omniidl([path], FOLDER.name, "-Wbpartial,python,cpp,c,rust")
+        if ran.returncode != 0:
+            raise AssertionError(ran.stderr)
+        cls.omniorb = omniorb_program("omniorb_store", path, source(".cc"))
+
+    @base.each(WAYS.items)
+    def test_store(self, way: Any) -> None:
+        """It is called by omniORB, calls omniORB, and itself; what holds itself too deep is refused."""
+        words = way()
+        with serving(*words, "serve") as reference:
+            self.assertEqual(run(self.omniorb, "ask", reference).splitlines(), SAID)
+            self.assertEqual(run(*words, "ask", reference).splitlines(), SAID)
+            asyncio.run(self.depth(reference))
+        with serving(self.omniorb, *ENDPOINT) as reference:
+            self.assertEqual(run(*words, "ask", reference).splitlines(), SAID)
+
+    async def depth(self, reference: str) -> None:
+        """Sequences stand in each other 64 deep, and no deeper."""
+        async with lr.Client.of(lr.Ior.parse(reference)) as client:
+            for depth, wanted in ((63, None), (64, "MARSHAL"), (50000, "MARSHAL")):
+                # (a text, and a sequence of one; in big endian, which is what a call of octets is in)
+                body = b"\0\0\0\2a\0\0\0\0\0\0\1" * depth + b"\0\0\0\2b\0\0\0\0\0\0\0"
+                try:
+                    self.assertEqual(len((await client.call_raw(client.key, "keep", body)).octets), len(body))
+                    found = None
+                except lr.SystemException as raised:
+                    found = raised.name
+                self.assertEqual(found, wanted, depth)
+
+
+# ---- by themselves ----
+
+# what was once made into what no compiler takes
+PLAIN = """#include <orb.idl>
+// a grandparent, bases that others have, and in two orders
+interface A { void first(); };
+interface B : A { void second(); };
+interface C : B { void third(); };
+interface D : A, B, C { void fourth(); };
+interface E {};
+interface AE : A, E {};
+interface EA : E, A {};
+interface Both : AE, EA {};
+// words of the languages, and of what is made
+interface Phone { void dial(in string call, in long caller, in long key); };
+struct Classes { long mro; };
+enum Numbers { real, imag, numerator, name, value, to_bytes };
+struct Macros { long errno; long assert; short SIGTERM; };
+enum More { POLLIN, EOF };
+interface lemonrudder { string f(); };
+struct std { string s; };
+struct Names { std inner; string s; };
+struct _in { long value; };
+struct one { _in two; };
+union _out switch (long) { case 1: one label; };
+interface Traits { void into(in long x); void from(in long x); void new(in long x); void clone(); };
+interface Shadows { void f(in long POLLIN, out More Numbers); void g(in long name); };
+// types that hold themselves
+struct S;
+typedef sequence<S> Some;
+struct S { Some few; sequence<S> more; };
+union U switch (long) { case 1: sequence<U> few; case 2: S tree; };
+interface I { U f(inout S tree); };
+"""
+
+
+@needs("omniidl", "gcc", "g++", "clang++", "mypy", "cargo-clippy")
+class Plain(unittest.TestCase):
+    """What is made without -Wbpartial, and its options."""
+
+    def test_plain(self) -> None:
+        """What was once made into what no compiler takes compiles in each language."""
+        want_files()
+        with tempfile.TemporaryDirectory(prefix="idl_plain") as top:
+            path, folder = os.path.join(top, "plain.idl"), os.path.join(top, "made")
+            with open(path, "w", encoding="ascii") as file:
+                file.write(PLAIN)
+            ran = omniidl([path], folder, *(f"-Wb{one}" for one in LANGUAGES))
+            self.assertEqual(ran.returncode, 0, ran.stderr)
+            judge = Judge(folder)
+            for name, judged in (("Python", judge.python), ("C", lambda: judge.compiles("gcc", ".c", OF_C)),
+                                 ("headers in C", lambda: judge.compiles("g++", ".h", OF_HEADERS)),
+                                 ("C++", lambda: judge.compiles("g++", ".hpp", OF_CPP)),
+                                 ("Rust", lambda: judge.rust("plain"))):
+                with self.subTest(name):
+                    judged()
+
+    def test_macros(self) -> None:
+        """The list of macros has those of the headers here."""
+        with open(os.path.join(ROOT, "idl", "lemonrudder", "macros.py"), encoding="ascii") as file:
+            words = re.findall(r"\w+", file.read())
+        for compiler in ("g++", "clang++"):
+            header = os.path.join(ROOT, "idl", "lemonrudder", "lemonrudder_idl.hpp")
+            said = run(tool(compiler), "-std=gnu++17", "-x", "c++", "-dM", "-E", header,
+                       f"-I{os.path.join(ROOT, 'embed', 'include')}")
+            found = set(re.findall(r"^#define ([A-Za-z]\w*)", said, re.M))
+            self.assertEqual({name for name in found - set(words) if not name.startswith(("LR_", "LEMONRUDDER"))}, set())
+
+    def test_version(self) -> None:
+        """What is made is of the version of this library, and no other is taken."""
+        with tempfile.TemporaryDirectory(prefix="idl_version") as folder:
+            path = os.path.join(folder, "of.idl")
+            with open(path, "w", encoding="ascii") as file:
+                file.write("struct S { long x; };")
+            self.assertEqual(omniidl([path], folder, "-Wbpython,c,cpp").returncode, 0)
+            major, minor, patch = map(int, VERSION.split("."))
+            with open(os.path.join(folder, "of_idl.py"), encoding="ascii") as file:
+                self.assertIn(f"_idl.made_for({major}, {minor}, {patch})\n", file.read())
+            for ours in ((major, minor + 1, 0), (major + 1, 0, 0)):
+                self.assertRaises(ImportError, lr.idl.made_for, *ours)
+            include = f"-I{os.path.join(ROOT, 'embed', 'include')}"
+            for compiler, name in (("gcc", "of_idl.h"), ("g++", "of_idl.hpp")):
+                with open(os.path.join(folder, name), encoding="ascii") as file:
+                    text = file.read()
+                self.assertIn(f"LR_VERSION_NUMBER < {major << 16 | minor << 8 | patch} ", text)
+                with open(os.path.join(folder, name), "w", encoding="ascii") as file:
+                    file.write(text.replace("#if LR_VERSION", "#undef LR_VERSION_NUMBER\n#define LR_VERSION_NUMBER 768\n"
+                                                              "#if LR_VERSION"))
+                ran = subprocess.run([compiler, include, "-fsyntax-only", os.path.join(folder, name)],
+                                     capture_output=True, text=True, check=False)
+                self.assertIn("make it anew by omniidl", ran.stderr)
+
+    def test_table(self) -> None:
+        """The table of types leaves out what it can't say, with a line."""
+        with tempfile.TemporaryDirectory(prefix="idl_table") as folder:
+            path = os.path.join(folder, "table.idl")
+            with open(path, "w", encoding="ascii") as file:
+                file.write("struct S;\ntypedef sequence<S> Some;\nstruct S { Some few; };\nstruct T { S one; };\n"
+                           "interface I { void f(in T x);\n  void g(in any x);\n  long h(); };\n")
+            ran = omniidl([path], folder, "-Wbpartial,types")
+            self.assertEqual(ran.stderr.splitlines(), [
+                f"{path}:6: Warning: any: the operation is a raw one",
+                f"{path}:5: Warning: I::f: types that hold themselves: the table leaves it out"])
+            with open(os.path.join(folder, "table.types"), encoding="ascii") as file:
+                self.assertEqual(file.read().splitlines()[2:], ["interface IDL:I:1.0", "operation h", "out - long"])
+
+    def test_partial(self) -> None:
+        """Of each thing that is left out there is a line, and what uses it is by octets."""
+        with tempfile.TemporaryDirectory(prefix="idl_partial") as folder:
+            path = os.path.join(folder, "partial.idl")
+            with open(path, "w", encoding="ascii") as file:
+                file.write("struct S {\n  any x; };\ntypedef sequence<S> Some;\nexception E { S x; };\n"
+                           "interface I {\n  void f(in Some x);\n  void g() raises (E);\n  void h() context (\"a\");\n"
+                           "  attribute wstring w;\n  void j(in I x); };\n"
+                           "abstract interface A { void o(); };\nlocal interface L { enum M { n }; };\n"
+                           "interface K : A { void p(in A x);\n  L::M q(); };\n")
+            ran = omniidl([path], folder, "-Wbpartial,python")
+            self.assertEqual([line.replace(path, "") for line in ran.stderr.splitlines()], [
+                ":2: Warning: any: it is left out", ":3: Warning: S: any: it is left out",
+                ":4: Warning: S: any: it is left out", ":6: Warning: Some: S: any: the operation is a raw one",
+                ":7: Warning: E: S: any: the operation is a raw one", ":8: Warning: a context clause: the operation is a raw one",
+                ":9: Warning: wstring: the operation is a raw one", ":12: Warning: a local interface: it is left out",
+                ":13: Warning: an abstract interface: the operation is a raw one"])
+            with open(os.path.join(folder, "partial_idl.py"), encoding="ascii") as file:
+                text = file.read()
+            self.assertEqual(re.findall(r'OfOctets\("(\w+)"', text), ["f", "g", "h", "_get_w", "_set_w", "p"])
+            self.assertEqual(re.findall(r'Operation\("(\w+)"', text), ["j", "o", "q"])
+
+
+if __name__ == "__main__":
+    unittest.main()
