@@ -557,7 +557,8 @@ class Python(unittest.TestCase):
         """What is printed of a value makes it anew, where the modules are there."""
         made("shapes", SHAPES)
         names = importlib.import_module("Shapes")
-        made("marks", "module Marks { union lambda switch (short) { case 1: case 2: long id; default: string text; }; };")
+        made("marks", "module Marks { union lambda switch (short) {"
+             " case 1: case 2: long id; default: string text; }; };")
         marks = importlib.import_module("Marks")
         scope = {"Shapes": names, "Marks": marks}
         for value, text in (
@@ -583,7 +584,9 @@ class Python(unittest.TestCase):
             typedef long Row[1000]; typedef sequence<Row> Rows; typedef sequence<boolean> Flags;
             union Some switch (char) { case 'a': Row numbers; }; typedef sequence<Some> Somes;
             struct Kinds { sequence<char> chars; double reals[300]; sequence<octet> octets; float few[2]; };
-            interface Many { long sum(in Rows all, in Flags those); long count(in Somes all); Kinds keep(in Kinds one); };
+            interface Many {
+              long sum(in Rows all, in Flags those); long count(in Somes all); Kinds keep(in Kinds one);
+            };
         """)
 
         class Servant(names._POA_Many):
@@ -608,13 +611,15 @@ class Python(unittest.TestCase):
                     self.assertLess(time.process_time() - begun, 0.5)
                     kinds = names.Kinds("a\xff\0", [one / 2 for one in range(300)], b"\0\xff", [0.5, 2])
                     self.assertEqual(await stub.keep(kinds), kinds)
-                    for member, value, kind, text in (("reals", [0.5] * 299 + ["x"], TypeError, "reals: [299]: 'x' is no double"),
-                                                      ("few", [1.0, 1e39], ValueError, "few: [1]: 1e+39 is no float"),
-                                                      ("chars", "a\u20ac", ValueError, "chars: [1]: '\u20ac' is no char")):
+                    for member, value, kind, text in (
+                            ("reals", [0.5] * 299 + ["x"], TypeError, "reals: [299]: 'x' is no double"),
+                            ("few", [1.0, 1e39], ValueError, "few: [1]: 1e+39 is no float"),
+                            ("chars", "a\u20ac", ValueError, "chars: [1]: '\u20ac' is no char")):
                         with self.assertRaisesRegex(kind, "keep: one: " + re.escape(text)):
                             await stub.keep(names.Kinds(**{**vars(kinds), member: value}))
                     for value, text in ((1 << 31, "2147483648 is no long"), (True, "True is no long")):
-                        with self.assertRaisesRegex((TypeError, ValueError), re.escape(f"sum: all: [0]: [999]: {text}")):
+                        wanted = re.escape(f"sum: all: [0]: [999]: {text}")
+                        with self.assertRaisesRegex((TypeError, ValueError), wanted):
                             await stub.sum([[0] * 999 + [value]], [])
                     with self.assertRaisesRegex(TypeError, re.escape("sum: those: [1]: 1 is no boolean")):
                         await stub.sum([], [True, 1])
@@ -657,7 +662,8 @@ class Python(unittest.TestCase):
         text = struct.pack(">L", 11) + b"abcdefghij\0\0"
         for name, count, octets in (("put_ones", all_of, bytes(all_of)), ("put_deeps", 65, bytes(250 * 65)),
                                     ("put_eithers", all_of, b"c" * all_of), ("put_eithers", 8192, b"b\1" * 8192),
-                                    ("put_shorts", most // 2, b"\x7f\1" * (most // 2)), ("put_flags", most, bytes(most)),
+                                    ("put_shorts", most // 2, b"\x7f\1" * (most // 2)),
+                                    ("put_flags", most, bytes(most)),
                                     ("put_texts", all_of, text * all_of), ("put_pieces", all_of, bytes(4 * all_of))):
             with self.subTest(name=name, count=count):
                 (found,), size, memory = kept(name, count, octets)

@@ -225,8 +225,9 @@ class Formats(Case):
                                  b"\1" + bytes(-at & 3) + self.behind(format, values, order, at) + b"\7")
                 self.assertEqual(lr.pack(format, values, order=order, at=at), out.all)
                 self.assertEqual(lr.pack(format, tuple(values), order=order, at=at), out.all)
-                (found,), (again,) = lr.unpack(format, out.all, order, at), lr.unpack(format, out.all + b"more", order, at)
-                self.assertEqual((found, again), (values, values))
+                found, = lr.unpack(format, out.all, order, at)
+                self.assertEqual(found, values)
+                self.assertEqual(lr.unpack(format, out.all + b"more", order, at), (values,))
                 self.assertEqual([type(one) for one in found], [type(one) for one in values])
                 for _ in range(4):
                     size = dice.randrange(len(out.all))
@@ -246,12 +247,14 @@ class Formats(Case):
             with self.subTest(format=format), self.assertRaises(lr.LemonrudderError) as caught:
                 lr.unpack(format, octets)
             self.assertIn(f"at octet {at}", str(caught.exception))
-            self.assertIs(caught.exception.number, Error.VALUE if format in ("[e3]", "[(h?)]") or bad == b"\2" else Error.SHORT)
+            is_value = format in ("[e3]", "[(h?)]") or bad == b"\2"
+            self.assertIs(caught.exception.number, Error.VALUE if is_value else Error.SHORT)
         for format, values, text in (("[l]", [1, 1 << 31], "2147483648 is no long"), ("[?]", [True, 1], "1 is no bool"),
                                      ("[B]", [255, 256], "256 is no octet"), ("[c]", ["a", "bc"], "'bc' is not one"),
                                      ("[f]", [1.0, 1e39], "1e+39 is no float"), ("[d]", [1.0, "x"], "'x' is no float"),
-                                     ("[e2]", [1, 2], "2 is not one of 2"), ("[(hh)]", [(1, 2), (3, 40000)], "40000 is no"),
-                                     ("[(hh)]", [(1, 2), (3,)], "a struct of 2 members"), ("[q]", [1, None], "NoneType")):
+                                     ("[e2]", [1, 2], "2 is not one of 2"), ("[q]", [1, None], "NoneType"),
+                                     ("[(hh)]", [(1, 2), (3, 40000)], "40000 is no"),
+                                     ("[(hh)]", [(1, 2), (3,)], "a struct of 2 members")):
             with self.subTest(format=format), self.assertRaises((TypeError, ValueError)) as caught:
                 lr.pack(format, values)
             self.assertIn(text, str(caught.exception))
@@ -2574,7 +2577,8 @@ class Waits(Case):
                 async with lr.Client("127.0.0.1", port, client, keep_transient=False, version=version) as one:
                     try:
                         if operation == "raw":
-                            reply = await one.call_raw(key, operation, lr.pack("l", *values), number=number, expiration=FAR)
+                            body = lr.pack("l", *values)
+                            reply = await one.call_raw(key, operation, body, number=number, expiration=FAR)
                             return reply.octets, reply.order
                         return await one.recall(number, key, operation, types[0] if values else "", values, types[1],
                                                 {OVERFLOW: "ls"}, expiration=FAR)
@@ -2833,14 +2837,15 @@ class Bounds(Case):
                 performed.append(len(values))
                 return len(values)
 
-            operations = {"pairs": ("[(ls)]", "l", take), "deep": ("[[(ls)]]", "l", take), "numbers": ("[l]", "l", take),
+            operations = {"pairs": ("[(ls)]", "l", take), "deep": ("[[(ls)]]", "l", take),
+                          "numbers": ("[l]", "l", take),
                           "raw": lambda body: lr.pack("l", take(body.unpack("[s]")[0]))}
             many, few = [(1, "")] * 70000, [(1, "")] * 60000
             server, client = await self.pair(operations)
             async with server, client:
                 async def refused(operation, format, value):
                     with self.assertRaises(lr.SystemException) as caught:
-                        await client.call("k", operation, format, [value], "l")
+                        await client.call("k", operation, format, [value], "l", timeout=SECONDS)
                     return str(caught.exception)
 
                 self.assertEqual(await refused("pairs", "[(ls)]", many), "MARSHAL, minor 0, COMPLETED_NO")
@@ -2848,14 +2853,17 @@ class Bounds(Case):
                                  "MARSHAL, minor 0, COMPLETED_NO")
                 self.assertEqual(performed, [])
                 for operation, format, value in (("pairs", "[(ls)]", few), ("numbers", "[l]", [1] * 200000),
-                                                 ("deep", "[[(ls)]]", [few[:30000], few[:30000]]), ("raw", "[s]", [""] * 9)):
-                    self.assertEqual(await client.call("k", operation, format, [value], "l"), len(value))
+                                                 ("deep", "[[(ls)]]", [few[:30000], few[:30000]]),
+                                                 ("raw", "[s]", [""] * 9)):
+                    count = await client.call("k", operation, format, [value], "l", timeout=SECONDS)
+                    self.assertEqual(count, len(value))
                 # (what a raw operation reads is its own: it may say what it is refused by)
                 self.assertEqual(await refused("raw", "[s]", [""] * 70000), "UNKNOWN, minor 0, COMPLETED_MAYBE")
             for most, count in ((3, 3), (None, 70000)):
                 server, client = await self.pair(operations, max_elements=most)
                 async with server, client:
-                    self.assertEqual(await client.call("k", "pairs", "[(ls)]", [many[:count]], "l"), count)
+                    found = await client.call("k", "pairs", "[(ls)]", [many[:count]], "l", timeout=SECONDS)
+                    self.assertEqual(found, count)
                     if most is not None:
                         with self.assertRaises(lr.SystemException):
                             await client.call("k", "pairs", "[(ls)]", [many[:most + 1]], "l")
@@ -3140,8 +3148,9 @@ class Addresses(Case):
         """A client of a URL `corbaloc:` calls the object of its key at its addresses."""
         async def main():
             server, client = await self.pair({"get": ("", "l", lambda: 7)})
-            urls = [f"corbaloc:{places}/k" for places in (f":127.0.0.1:{client.port}", f"iiop:1.0@127.0.0.1:{client.port}",
-                                                          f":127.0.0.1:{self.closed_port()},:127.0.0.1:{client.port}")]
+            here = f"127.0.0.1:{client.port}"
+            urls = [f"corbaloc:{places}/k" for places in (f":{here}", f"iiop:1.0@{here}",
+                                                          f":127.0.0.1:{self.closed_port()},:{here}")]
             async with server:
                 for url in urls:
                     async with lr.Client.of(url) as one:
@@ -3426,7 +3435,8 @@ class Tls(Case):
             server.add("k", "IDL:K:1.0", {"get": ("", "l", lambda: 1)})
             port = await server.listen(ssl=served)
             tls = {"ssl": called, "server_hostname": "localhost"}
-            async with server, lr.Client("127.0.0.1", port, **tls) as client, lr.Client("127.0.0.1", port, **tls) as other:
+            client, other = [lr.Client("127.0.0.1", port, **tls) for _ in range(2)]
+            async with server, client, other:
                 self.assertEqual(await client.call("k", "get", results="l"), 1)
                 silent = [socket.create_connection(("127.0.0.1", port)) for _ in range(3)]
                 self.assertEqual(await other.call("k", "get", results="l", timeout=20), 1)

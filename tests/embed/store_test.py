@@ -220,8 +220,8 @@ class OverAModel(unittest.IsolatedAsyncioTestCase):
             return await find(key)
 
         self.model.find = forget
-        for number, (operation, commits, cents) in enumerate((("deposit", ["lost"], 7), ("deposit", ["fails", "lost"], 7),
-                                                              ("fail_behind", [], 2)), 1):
+        ways = ("deposit", ["lost"], 7), ("deposit", ["fails", "lost"], 7), ("fail_behind", [], 2)
+        for number, (operation, commits, cents) in enumerate(ways, 1):
             with self.subTest((operation, commits)):
                 self.model.commits, self.model.least = list(commits), 0
                 self.model.accounts.clear()
@@ -371,7 +371,8 @@ class OverAModel(unittest.IsolatedAsyncioTestCase):
 
         self.server.add(b"later", (), {"deposit": ("sq", "q", later)}, {"deposit": {OVERDRAWN: "q"}})
         wanted = {0: (OVERDRAWN, (5,)), 1: 1, 7: 7}
-        calls = {cents: asyncio.ensure_future(self.ask(cents + 1, "deposit", "a", cents, key=b"later")) for cents in wanted}
+        calls = {cents: asyncio.ensure_future(self.ask(cents + 1, "deposit", "a", cents, key=b"later"))
+                 for cents in wanted}
         while self.server.stats()["under_way"] < len(wanted):
             await asyncio.sleep(0)
         self.server.remove(b"later")

@@ -454,7 +454,8 @@ class _Struct(_Type):
         if not self._layouts:
             return super().read_many(reader, count)
         reader.count(count)
-        layouts, at, next, octets = self._layouts[reader._place.order], reader._place.at, reader._place.next, reader.octets
+        layouts, octets = self._layouts[reader._place.order], reader.octets
+        at, next = reader._place.at, reader._place.next
         found, starts = [], [next]
         for _ in range(count):
             layout = layouts[at + next & 7]

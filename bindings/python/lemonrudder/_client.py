@@ -46,17 +46,17 @@ class Client:
     that a server that keeps outcomes performs it once. A client is for one event loop.
 
     host and port: of the server. others: further hosts and ports of it, which share its outcomes; one after another is
-    tried. Between rounds it waits, by chance between half of a delay and all of it; delays are the least, which doubles
-    each time, and the most, in seconds. client_id: 1 to 256 octets without a NUL, which no other client has or had:
-    servers know a call by it and by a number that begins at 1. Without one it is random; with one of before, `recall`
-    and `skip_to` say which numbers were used. version: 0 to 2. limit and partials: as of Assembler. keep_transient: a
-    call that TRANSIENT answers, unless it was completed, is sent again after a while, in place of raising.
-    keep_forward: one that is forwarded is asked for under its number where it leads, on a connection of its own, and so
-    are later calls of its key, until nobody answers there; in place of raising ForwardRequest. connect_timeout: the
-    seconds that a connection may take to be made. answer_timeout: the seconds that one of several places may say
-    nothing while calls are pending there, which are then sent to the next one under their numbers, or asked for as at
-    first where they were forwarded; None: its share of the time that a call has. `options` go to loop.create_connection, as `ssl` and
-    `server_hostname`.
+    tried. Between rounds it waits, by chance between half of a delay and all of it; delays are the least, which
+    doubles each time, and the most, in seconds. client_id: 1 to 256 octets without a NUL, which no other client has or
+    had: servers know a call by it and by a number that begins at 1. Without one it is random; with one of before,
+    `recall` and `skip_to` say which numbers were used. version: 0 to 2. limit and partials: as of Assembler.
+    keep_transient: a call that TRANSIENT answers, unless it was completed, is sent again after a while, in place of
+    raising. keep_forward: one that is forwarded is asked for under its number where it leads, on a connection of its
+    own, and so are later calls of its key, until nobody answers there; in place of raising ForwardRequest.
+    connect_timeout: the seconds that a connection may take to be made. answer_timeout: the seconds that one of several
+    places may say nothing while calls are pending there, which are then sent to the next one under their numbers, or
+    asked for as at first where they were forwarded; None: its share of the time that a call has. `options` go to
+    loop.create_connection, as `ssl` and `server_hostname`.
     Raises LemonrudderError (RANGE, TEXT); ValueError: no port.
     """
 

@@ -93,7 +93,7 @@ class Ior:
 
     @classmethod
     def parse(cls, text: Text) -> Ior:
-        """Reads a stringified reference, `IOR:` or a URL, as the library does; white space around it counts for nothing.
+        """Reads a stringified reference, `IOR:` or a URL, as the library does; white space around it is left out.
 
         Raises LemonrudderError (REFERENCE).
         """

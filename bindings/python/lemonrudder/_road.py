@@ -339,4 +339,5 @@ class Link(asyncio.Protocol):
             self.road._lost()
         if not self.ended.done():
             kept = self.road._cause if isinstance(self.road._cause, (SystemException, LemonrudderError)) else None
-            self.ended.set_result(self.road._mute or error or kept or ConnectionResetError("the server closed the connection"))
+            why = self.road._mute or error or kept
+            self.ended.set_result(why or ConnectionResetError("the server closed the connection"))

@@ -56,13 +56,14 @@ class Server:
     limit, partials, capacity, share, max_parked, max_parked_of, max_joined, max_due and max_client_id: as of Engine.
     max_elements: how many elements of sequences, and structs in structs, the arguments of a request may have in all,
     but for numbers, booleans and characters, since each takes its time for all connections: one that has more is
-    refused by MARSHAL; None: as many as there are. Where max_parked requests are parked, an async operation is refused by TRANSIENT; the last quarter of the places is
-    for connections that have none. While as many outcomes are kept as may be, requests that are new and may be sent
-    again are answered NO_RESOURCES. max_connections: who comes beyond takes the place of the one that is idle longest, for a second at least; where
-    all are busy it waits. So it is where there are no descriptors. timeout: the seconds that an
-    async operation may take; then it is cancelled, and, unless it says another outcome within a second, answered as
-    TIMEOUT, COMPLETED_MAYBE, since it has perhaps acted. idle_timeout: the seconds after which goodbye is said on a
-    connection that has been silent. write_timeout: the seconds that a peer may take nothing of what is due. None: as
+    refused by MARSHAL; None: as many as there are. Where max_parked requests are parked, an async operation is refused
+    by TRANSIENT; the last quarter of the places is for connections that have none. While as many outcomes are kept as
+    may be, requests that are new and may be sent again are answered NO_RESOURCES. max_connections: who comes beyond
+    takes the place of the one that is idle longest, for a second at least; where all are busy it waits. So it is where
+    there are no descriptors. timeout: the seconds that an async operation may take; then it is cancelled, and, unless
+    it says another outcome within a second, answered as TIMEOUT, COMPLETED_MAYBE, since it has perhaps acted.
+    idle_timeout: the seconds after which goodbye is said on a connection that has been silent. write_timeout: the
+    seconds that a peer may take nothing of what is due. None: as
     long as it likes.
 
     store: where outcomes are kept that outlive the process; without one they end with it. Each request with FT_REQUEST
