@@ -37,7 +37,7 @@ COUNT = 4
 OF_C = ["-std=c11", "-Wall", "-Wextra", "-Wpedantic", "-Wshadow", "-Wconversion"]
 OF_CPP = ["-std=c++17", "-Wall", "-Wextra"]
 OF_HEADERS = ["-std=c++11", "-Wall", "-Wextra", "-Wpedantic"]
-ALLOWED = "#![allow(dead_code)]\n"
+STRICT = "#![allow(dead_code)]\n#![deny(warnings, unsafe_code)]\n"
 
 
 def omniidl(paths: Iterable[str], folder: str, *words: str) -> subprocess.CompletedProcess[str]:
@@ -84,7 +84,7 @@ class Judge:
             env={**os.environ, "MYPYPATH": path})
 
     def rust(self, name: str) -> None:
-        """A crate of all modules has nothing that clippy speaks of."""
+        """A crate of all modules compiles without a warning."""
         folder = os.path.join(self.folder, "crate")
         os.makedirs(os.path.join(folder, "src"))
         for source in self.names(".rs"):
@@ -93,8 +93,8 @@ class Judge:
             file.write(MANIFEST.format(name=name, root=ROOT))
         modules = (os.path.basename(path)[:-3] for path in sorted(glob.glob(os.path.join(folder, "src", "*.rs"))))
         with open(os.path.join(folder, "src", "lib.rs"), "w", encoding="ascii") as file:
-            file.write(ALLOWED + "".join(f"pub mod {module};\n" for module in modules))
-        KIT.cargo(folder, "clippy", "--", "-D", "warnings", "-D", "unsafe-code")
+            file.write(STRICT + "".join(f"pub mod {module};\n" for module in modules))
+        KIT.cargo(folder, "check")
 
 
 @needs("omniidl", "gcc", "g++", "clang++", "mypy", "cargo-clippy")
