@@ -1,7 +1,7 @@
 #!/usr/bin/env python3
 """Times the lower crates and the program against a plain engine in Rust, on the same input in one run.
 
-usage: measure.py OURS PLAIN GIOP [--rounds 5] [--only WORD] [--no-instructions]
+usage: measure.py OURS PLAIN GIOP [--rounds 5] [--only WORD] [--no-instructions] [--short]
 
 OURS is the program of crates/benches, PLAIN that of bench/plain.rs, GIOP the program `giop`. Each row is a
 kind of work: what it does in one count, so many counts, and the octets of a piece. Times are processor time, the best
@@ -13,6 +13,9 @@ are the octets of memory for each digit.
 
 The status is 1 where the programs don't print the same, where nothing was read, where work takes no more time,
 instructions or memory than none, and where a round's work takes less than 50 milliseconds: such figures can't be.
+
+With --short a row is of a twentieth of the counts, once, and instructions are counted of the first row of a table alone.
+No figure is judged, but what the programs print still is. All scripts of this folder have it.
 """
 import argparse
 import os
@@ -39,12 +42,34 @@ ROWS = [
     ("it is cut", "large_cut", 4096, 100, 20, 20),
     ("a reference's text is parsed", "reference", 1, 1_000_000, 1, 5_000),
 ]
+# whether this run is a short one, of the scripts that use this too; and what a row's counts are divided by then
+IS_SHORT = "--short" in sys.argv[1:]
+FEWER = 20
 # the least processor time, in seconds, of which a round's work has a figure
 LEAST = 0.05
 # a Request of 84 octets in digits
 DIGITS = request(5, b"c", "add", bytes([0, 0, 0, 7]), number=1, expiration=100).hex()
 # lines of digits whose time is taken, and whose instructions are counted
 LINES = {"time": 595_000, "instructions": 5_950}
+
+
+def or_short(usual, short):
+    """The first of two, or in a short run the second."""
+    return short if IS_SHORT else usual
+
+
+def parser_of(*names):
+    """A parser of a script's words: these, and --short."""
+    parser = argparse.ArgumentParser()
+    for name in names:
+        parser.add_argument(name)
+    parser.add_argument("--short", action="store_true")
+    return parser
+
+
+def are_counted(given, row):
+    """Whether instructions are counted of a row of a table, by its number."""
+    return not given.no_instructions and (row == 0 or not IS_SHORT)
 
 
 def run(words, source=None):
@@ -87,10 +112,15 @@ def peak(words):
 
 
 def figure(title, value):
-    """A figure that is more than nothing; another can't be."""
-    if not value > 0:
+    """A figure that is more than nothing; another can't be, but in a short run."""
+    if not value > 0 and not IS_SHORT:
         sys.exit(f"{title}: a figure of {value:g} can't be")
     return value
+
+
+def ratio(ours, other):
+    """The ratio of a figure to another. In a short run the other may be nothing, and then there is none."""
+    return ours / other if other or not IS_SHORT else float("nan")
 
 
 def in_turns(rounds, programs, words, source=None, reads=True, runs=1):
@@ -106,16 +136,16 @@ def in_turns(rounds, programs, words, source=None, reads=True, runs=1):
             printed.add(text)
         if len(printed) != 1:
             sys.exit(f"{words}: the programs print differently, as {[text[:80] for text in printed]}")
-        if reads:
-            figure(f"{words}", int(re.search(rb"\d+", printed.pop())[0]))
+        if reads and int(re.search(rb"\d+", printed.pop())[0]) == 0:
+            sys.exit(f"{words}: nothing was read")
     return time, memory
 
 
 def ratios_of(title, time):
     """The ratio of ours to the plain one's time in each round."""
-    if min(min(rounds) for rounds in time.values()) < LEAST:
+    if min(min(rounds) for rounds in time.values()) < LEAST and not IS_SHORT:
         sys.exit(f"{title}: a round of less than {LEAST:g} s: {time}")
-    return [ours / plain for ours, plain in zip(time["ours"], time["plain"])]
+    return [ratio(ours, plain) for ours, plain in zip(time["ours"], time["plain"])]
 
 
 def net_times(rounds, programs, kind, piece, count, runs):
@@ -138,51 +168,47 @@ def line(title, time, ratios, counted, memory=None):
     for each, form in ((time, ".1f"), (counted, ".1f"), (memory, ".2f")):
         if each:
             ours, plain = figure(title, each["ours"]), figure(title, each["plain"])
-            parts.append(f"{ours:>12,{form}} {plain:>12,{form}} {ours / plain:>6.2f}")
+            parts.append(f"{ours:>12,{form}} {plain:>12,{form}} {ratio(ours, plain):>6.2f}")
         if each is time:
             parts.append(f"({min(ratios):.2f} to {max(ratios):.2f})")
     print(" ".join(parts), flush=True)
 
 
-def digits_row(given, programs, word):
+def digits_row(given, programs, word, is_counted):
     """The row of `check` or `show`, for one digit."""
     with tempfile.TemporaryDirectory() as folder:
         sources = {}
-        for what, lines in LINES.items():
+        counts = {what: or_short(lines, lines // FEWER) for what, lines in LINES.items()}
+        for what, lines in counts.items():
             sources[what] = f"{folder}/{what}"
             with open(sources[what], "w", encoding="ascii") as file:
                 file.write((DIGITS + "\n") * lines)
-        counts = {what: len(DIGITS) * lines for what, lines in LINES.items()}
+        counts = {what: len(DIGITS) * lines for what, lines in counts.items()}
         time, memory = in_turns(given.rounds, programs, [word], sources["time"])
         counted = None
-        if not given.no_instructions:
+        if is_counted:
             counted = {name: instructions(words + [word], sources["instructions"]) / counts["instructions"] for name, words in programs.items()}
         line(f"`{word}`, a digit", {name: min(time[name]) / counts["time"] * 1e9 for name in programs},
              ratios_of(word, time), counted, {name: memory[name] / counts["time"] for name in programs})
 
 
 def main():
-    parser = argparse.ArgumentParser()
-    parser.add_argument("ours")
-    parser.add_argument("plain")
-    parser.add_argument("giop")
-    parser.add_argument("--rounds", type=int, default=5)
+    parser = parser_of("ours", "plain", "giop")
+    parser.add_argument("--rounds", type=int, default=or_short(5, 1))
     parser.add_argument("--only", default="")
     parser.add_argument("--no-instructions", action="store_true")
     given = parser.parse_args()
     print(f"{'':<32} {'nanoseconds':>12} {'plain':>12} {'ratio':>6} {'of rounds':>14} "
           f"{'instructions':>12} {'plain':>12} {'ratio':>6}")
     programs = {"ours": [given.ours, "frames"], "plain": [given.plain]}
-    for title, kind, piece, count, runs, fewer in ROWS:
-        if given.only not in title:
-            continue
+    for number, (title, kind, piece, count, runs, fewer) in enumerate(row for row in ROWS if given.only in row[0]):
+        count, runs = or_short(count, count // FEWER), or_short(runs, 1)
         time, ratios = net_times(given.rounds, programs, kind, piece, count, runs)
-        counted = None if given.no_instructions else net_instructions(programs, kind, piece, fewer)
+        counted = net_instructions(programs, kind, piece, fewer) if are_counted(given, number) else None
         line(title, time, ratios, counted)
     programs["ours"] = [given.giop]
-    for word in ("check", "show"):
-        if given.only in word:
-            digits_row(given, programs, word)
+    for number, word in enumerate(word for word in ("check", "show") if given.only in word):
+        digits_row(given, programs, word, are_counted(given, number))
 
 
 if __name__ == "__main__":

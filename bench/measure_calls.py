@@ -1,7 +1,7 @@
 #!/usr/bin/env python3
 """Counts what a message costs through the library for C, and through an Engine in Rattle, fed with the same pieces.
 
-usage: measure_calls.py OURS ENGINE [--count 10000] [--rounds 5] [--time-count 1000000] [--calls]
+usage: measure_calls.py OURS ENGINE [--count 10000] [--rounds 5] [--time-count 1000000] [--calls] [--short]
 
 OURS is the program of bench/c/engine.c, ENGINE that of crates/benches. The messages are those of bench/server. Of OURS
 there are three columns: `few` calls what a server can't do without, `loop` all that examples/bank.c and its loop call,
@@ -13,19 +13,18 @@ have to print the same.
 With --calls it prints instead what each function of the library takes of a message that is a piece, and the heap, with
 all that they call.
 """
-import argparse
 import re
 import subprocess
 import sys
 import tempfile
 
-from measure import figure, instructions, run
+from measure import figure, instructions, or_short, parser_of, ratio, run
 
 KINDS = ["add", "repeat", "locate"]
 # the octets of a message, which is first a piece of its own
 OWN = {"add": 52, "repeat": 84, "locate": 25, "rising": 84}
 SIZES = [4096, 65536, 1]
-KEYED = [1024, 65536]
+KEYED = [1024, or_short(65536, 2048)]
 FUNCTIONS = r"lr_server_\w+|lr_[gp]\w+|malloc|realloc|free"
 
 
@@ -38,7 +37,7 @@ def programs_of(given):
 def line(title, cost, form):
     """Prints what a message costs by each program, and its ratio to the first."""
     first = next(iter(cost.values()))
-    cells = [f"{figure(title, value):>10,{form}} {value / first:5.2f}" for value in cost.values()]
+    cells = [f"{figure(title, value):>10,{form}} {ratio(value, first):5.2f}" for value in cost.values()]
     print(f"{title:<24}" + "".join(cells), flush=True)
 
 
@@ -106,12 +105,10 @@ def time_messages(given, programs):
 
 
 def main():
-    parser = argparse.ArgumentParser()
-    parser.add_argument("ours")
-    parser.add_argument("engine")
-    parser.add_argument("--count", type=int, default=10_000)
-    parser.add_argument("--rounds", type=int, default=5)
-    parser.add_argument("--time-count", type=int, default=1_000_000)
+    parser = parser_of("ours", "engine")
+    parser.add_argument("--count", type=int, default=or_short(10_000, 100))
+    parser.add_argument("--rounds", type=int, default=or_short(5, 1))
+    parser.add_argument("--time-count", type=int, default=or_short(1_000_000, 20_000))
     parser.add_argument("--calls", action="store_true")
     given = parser.parse_args()
     programs = programs_of(given)

@@ -1,7 +1,7 @@
 #!/usr/bin/env python3
 """Counts the deposits in a second of examples/bank.c and examples/bank_durable.c, beside their databases alone.
 
-usage: measure_durable.py PROGRAMS [--rounds 3] [--seconds 3]
+usage: measure_durable.py PROGRAMS [--rounds 3] [--seconds 3] [--short]
 
 PROGRAMS is the folder that bench/durable fills. Clients deposit over loopback, each into an account of its own and one
 call at a time, with FT_REQUEST; each reply is looked at. The databases do the same statements, but for looking a
@@ -9,19 +9,23 @@ request up: SQLite by one writer, so many deposits in a transaction as there are
 many clients with a transaction for each deposit, and by one connection as SQLite. Printed is the median of so many
 rounds, in which all take turns, and the ratio to the database alone, with the least and the greatest of a round.
 """
-import argparse
 import os
 import re
-import signal
 import statistics
 import subprocess
 import sys
 import tempfile
+import unittest
 
-sys.path.insert(0, os.path.dirname(os.path.dirname(os.path.realpath(__file__))))
-from tests.embed.durable import Postgres, free_port  # noqa: E402
+# (which finds the package of tests)
+from measure import figure, or_short, parser_of, ratio
+from measure_servers import serving
+from tests.embed.durable import Postgres
+from tests.giop import reference_of
 
 KEY = "62616e6b"  # bank
+# replies after which a bank in memory is asked no more: it keeps 65,536 outcomes, and none expires meanwhile
+ROOM = 60_000
 CLIENTS = (1, 64)
 # what pgbench does: a deposit as examples/bank_postgres.c makes one
 SCRIPT = """BEGIN;
@@ -55,39 +59,45 @@ class Measure:
             self.postgres.asked("TRUNCATE outcome; DELETE FROM account")
         return self.postgres.address
 
-    def served(self, words, clients, milliseconds, deposits="deposits"):
+    @property
+    def milliseconds(self):
+        return str(round(1000 * self.seconds))
+
+    def served(self, words, clients, length):
         """The deposits in a second that a bank answers."""
-        port = str(free_port())
-        words = [port if word == "PORT" else word for word in words]
-        with subprocess.Popen(words, stdout=subprocess.PIPE, text=True) as bank:
-            bank.stdout.readline()
-            asked = subprocess.run([self.program("load"), port, KEY, str(clients), "1", str(milliseconds), deposits],
-                                   stdout=subprocess.PIPE, text=True, check=True).stdout.split()
-            bank.send_signal(signal.SIGTERM)
-        return int(asked[0]) / float(asked[1])
+        with serving([*words, "127.0.0.1", "0"]) as (_, said):
+            port = str(reference_of(said).port)
+            asked = subprocess.run([self.program("load"), port, KEY, str(clients), "1", length, "deposits"],
+                                   capture_output=True, text=True, check=False)
+            if asked.returncode != 0:
+                sys.exit(f"{words[0]}, {clients} clients: {asked.stderr.strip()}")
+        counted, seconds, *_ = asked.stdout.split()
+        return figure(words[0], int(counted) / float(seconds))
 
     def bank(self, kind, clients):
         """.. with its outcomes in memory alone, or in a store."""
         if kind == "memory":
-            # (which has room for 65536 outcomes)
-            return self.served([self.program("bank"), "127.0.0.1", "PORT"], clients, 400, "deposits:1")
-        return self.served([self.program("bank_durable"), self.store(kind), "127.0.0.1", "PORT"], clients,
-                           1000 * self.seconds)
+            return self.served([self.program("bank")], clients, f"{self.milliseconds}:{ROOM}")
+        return self.served([self.program("bank_durable"), self.store(kind)], clients, self.milliseconds)
 
     def plain(self, kind, clients):
         """The deposits in a second of a database alone, by one writer."""
-        said = subprocess.run([self.program("plain_bank"), self.store(kind), str(clients), str(1000 * self.seconds)],
+        said = subprocess.run([self.program("plain_bank"), self.store(kind), str(clients), self.milliseconds],
                               stdout=subprocess.PIPE, text=True, check=True).stdout.split()
-        return int(said[0]) / float(said[1])
+        return figure(f"{kind} alone", int(said[0]) / float(said[1]))
 
     def pgbench(self, clients):
         """.. of PostgreSQL, by so many clients."""
         self.store("PostgreSQL")
         self.postgres.asked(f"INSERT INTO account SELECT 'p' || number, 0 FROM generate_series(0, {clients}) AS number")
-        words = ["-n", "-M", "prepared", "-c", str(clients), "-j", "1", "-T", str(self.seconds), "-f", self.script]
+        # (which counts whole seconds)
+        seconds = str(max(1, round(self.seconds)))
+        words = ["-n", "-M", "prepared", "-c", str(clients), "-j", "1", "-T", seconds, "-f", self.script]
         said = subprocess.run([os.path.join(self.postgres.bin, "pgbench"), *words, self.postgres.address],
                               stdout=subprocess.PIPE, stderr=subprocess.DEVNULL, text=True, check=True).stdout
-        return float(re.search(r"^tps = ([\d.]+)", said, re.M)[1])
+        # (which says no rate where it did nothing)
+        rate = re.search(r"^tps = ([\d.]+)", said, re.M)
+        return figure("pgbench", float(rate[1]) if rate else 0)
 
 
 def rounds_of(measure, rounds):
@@ -107,12 +117,14 @@ def rounds_of(measure, rounds):
 
 
 def main():
-    parser = argparse.ArgumentParser()
-    parser.add_argument("programs")
-    parser.add_argument("--rounds", type=int, default=3)
-    parser.add_argument("--seconds", type=int, default=3)
+    parser = parser_of("programs")
+    parser.add_argument("--rounds", type=int, default=or_short(3, 1))
+    parser.add_argument("--seconds", type=float, default=or_short(3, 0.3))
     given = parser.parse_args()
-    postgres = Postgres()
+    try:
+        postgres = Postgres()
+    except unittest.SkipTest as why:
+        sys.exit(str(why))
     try:
         with tempfile.TemporaryDirectory(dir=".") as folder:
             found = rounds_of(Measure(given.programs, folder, postgres, given.seconds), given.rounds)
@@ -126,7 +138,7 @@ def main():
             line = f"{clients:3} clients, {name:<33}{statistics.median(some):9,.0f}"
             for other in (f"{name} alone", f"{name} alone, one connection"):
                 if (other, clients) in found:
-                    ratios = [one / base for one, base in zip(some, found[other, clients])]
+                    ratios = [ratio(one, base) for one, base in zip(some, found[other, clients])]
                     line += f"   {statistics.median(ratios):.2f} ({min(ratios):.2f} to {max(ratios):.2f}) of {other}"
             print(line)
 

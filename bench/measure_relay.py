@@ -2,11 +2,12 @@
 """Measures the relays, beside haproxy in TCP mode and beside no relay, over loopback.
 
 usage: measure_relay.py PROGRAMS [calls [--rounds 5] [--seconds 1] | slow | idle [--count 10000] | soak [--minutes 60]]
+                        [--short]
 
 PROGRAMS is the folder that bench/relay fills; LEMONRUDDER names the program. All but `soak` are measured where none is
 named. The server is bench/c/bare.c, the clients are those of bench/c/load.c, with one request outstanding each. Each
 request has FT_REQUEST with a new key that expires in a minute, but those that go to `retry`, which gives them one. Each
-has to act once: `load` looks at the results.
+has to act once: `load` looks at the results. What needs haproxy or PostgreSQL is named as not run where that is missing.
 
 calls   Replies in a second, how long a reply takes at the 50th and the 99th percentile, and how long all processes between
         the clients and the server are on a processor for one; without PostgreSQL's. All ways take turns, so many
@@ -21,28 +22,33 @@ soak    An unmodified client of omniORB calls a server of omniORB through `retry
         `guard` over SQLite. Each call has to act once and return. The memory that is resident and of no file is noted
         each 10 seconds, and printed each 5 minutes; the status is 1 where a line through the last three quarters rises
         by 8 octets or more for a call: the smallest block of the heap has 32.
+
+In a short run operations take a tenth of a second, memory is noted twice in a second, and not judged.
 """
 from __future__ import annotations
 
-import argparse
 import contextlib
 import os
 import random
 import re
 import resource
+import shutil
 import socket
 import statistics
 import subprocess
 import sys
 import tempfile
 import time
+import unittest
 import urllib.request
 from collections import defaultdict
 
-sys.path.insert(0, os.path.dirname(os.path.dirname(os.path.realpath(__file__))))
-from measure_servers import processor_seconds  # noqa: E402
-from tests.giop_peers import request  # noqa: E402
-from tests.relay import relays  # noqa: E402
+# (which finds the package of tests)
+from measure import IS_SHORT, or_short, parser_of, ratio
+from measure_servers import processor_seconds
+from tests.giop_peers import request
+from tests.programs import NEEDS
+from tests.relay import relays
 
 CLIENTS = (1, 8, 64)
 KEY = b"c"
@@ -59,15 +65,18 @@ listen one
     server one 127.0.0.1:{target}
 """
 FLUSHED = 1 << 16
+# how many milliseconds a slow operation takes, how long slow ones are asked for, in seconds, and how long idle
+# connections are left alone
+SLOW, SLOWLY, IDLE = or_short((1000, 4, 2), (100, 0.5, 0.2))
 # of the soak: calls of one client, its threads, and how many milliseconds a call takes at the server
-SOAKED = (500, 8, "80")
-# how often memory is looked at, and printed, in seconds
-SAMPLE, PRINT = 10, 300
+SOAKED = or_short((500, 8, "80"), (50, 8, "8"))
+# how often memory is looked at, in seconds, and printed, as so many times that
+SAMPLE, PRINT = or_short((10, 30), (0.5, 2))
 # octets for a call
 GROWTH = 8
 
 
-class Haproxy(relays.Relay):
+class Haproxy(relays.Life):
     """haproxy in TCP mode, before a port."""
 
     def __init__(self, folder, target):
@@ -75,7 +84,17 @@ class Haproxy(relays.Relay):
         path = os.path.join(folder, f"{self.port}.cfg")
         with open(path, "w", encoding="ascii") as file:
             file.write(HAPROXY.format(port=self.port, target=target))
-        relays.Life.__init__(self, "haproxy", "-db", "-f", path)
+        super().__init__("haproxy", "-db", "-f", path)
+
+    def begin(self):
+        """Begins it, and waits until it listens."""
+        super().begin()
+        end = time.monotonic() + relays.SECONDS
+        while not self.died() and time.monotonic() < end:
+            with contextlib.suppress(OSError), socket.create_connection(("127.0.0.1", self.port)):
+                return
+            time.sleep(0.01)
+        raise AssertionError(f"haproxy did not begin: {self.said()}")
 
 
 class Guard(relays.Relay):
@@ -108,6 +127,23 @@ class Measure:
 
     def __init__(self, programs, folder):
         self.programs, self.folder, self.postgres, self.count = programs, folder, None, 0
+        self.lacking = {} if shutil.which("haproxy") else {"haproxy": "haproxy"}
+
+    def find_postgres(self):
+        """Begins a PostgreSQL, or notes that it is missing."""
+        # (which looks for the library when it is loaded)
+        from tests.embed.durable import Postgres
+        try:
+            self.postgres = Postgres()
+        except unittest.SkipTest as why:
+            self.lacking["postgres"] = str(why).removeprefix(NEEDS)
+
+    def has(self, name):
+        """Whether a way can be measured here; one that can't is named."""
+        missing = [tool for kind, tool in self.lacking.items() if kind in self.WAYS[name].split()]
+        if missing:
+            print(f"  {name:<26} not run: {NEEDS}{missing[0]}", flush=True)
+        return not missing
 
     def store(self, kind):
         """A store that has nothing."""
@@ -160,9 +196,9 @@ class Measure:
             guard = next((life for life in lives if isinstance(life, Guard)), None)
             if guard and "memory" not in name:
                 steps, count = (guard.counter(f"store_write_steps_{it}") for it in ("sum", "count"))
-                found["steps"] = steps / count
+                found["steps"] = ratio(steps, count)
                 # (a request has two steps)
-                found["flushes"] = 2 * found["rate"] / found["steps"]
+                found["flushes"] = ratio(2 * found["rate"], found["steps"])
         return found
 
 
@@ -180,13 +216,15 @@ def flushes(folder, seconds):
 
 
 def print_calls(name, some, others, disk):
-    """Prints what was found of a way, in all rounds, beside haproxy."""
+    """Prints what was found of a way, in all rounds, beside haproxy where that was measured."""
     best = {what: (max if what == "rate" else min)(one[what] for one in some) for what in ("rate", "p50", "p99")}
     middle = {what: statistics.median(one[what] for one in some) for what in some[0]}
-    ratios = [one["rate"] / other["rate"] for one, other in zip(some, others)]
-    ratio = best["rate"] / max(one["rate"] for one in others)
-    line = f"  {name:<26}{best['rate']:9,.0f} a second  {ratio:5.2f}, {statistics.median(ratios):.2f} ({min(ratios):.2f} to "
-    line += f"{max(ratios):.2f})  p50 {best['p50']:8,.0f} us  p99 {best['p99']:8,.0f} us  {middle['cost']:6.1f} us of a processor"
+    line = f"  {name:<26}{best['rate']:9,.0f} a second  "
+    if others:
+        ratios = [ratio(one["rate"], other["rate"]) for one, other in zip(some, others)]
+        line += f"{ratio(best['rate'], max(one['rate'] for one in others)):5.2f}, {statistics.median(ratios):.2f} "
+        line += f"({min(ratios):.2f} to {max(ratios):.2f})  "
+    line += f"p50 {best['p50']:8,.0f} us  p99 {best['p99']:8,.0f} us  {middle['cost']:6.1f} us of a processor"
     if "steps" in middle:
         line += f"  {middle['steps']:4.1f} requests a transaction, {middle['flushes']:5,.0f} a second (disk alone {disk:,.0f})"
     print(line, flush=True)
@@ -194,9 +232,8 @@ def print_calls(name, some, others, disk):
 
 def calls(measure, given):
     """Prints replies and times of all ways."""
-    from tests.embed.durable import Postgres
-    names, found, disk = list(measure.WAYS), defaultdict(list), []
-    measure.postgres = Postgres()
+    measure.find_postgres()
+    names, found, disk = list(filter(measure.has, measure.WAYS)), defaultdict(list), []
     try:
         for number in range(given.rounds):
             disk.append(flushes(measure.folder, given.seconds))
@@ -204,7 +241,8 @@ def calls(measure, given):
                 for name in names[:: -1 if number % 2 else 1]:
                     found[clients, name].append(measure.calls(name, clients, given.seconds))
     finally:
-        measure.postgres.close()
+        if measure.postgres:
+            measure.postgres.close()
     for clients in CLIENTS:
         print(f"{clients} client{'s' * (clients > 1)}: best of {given.rounds}, to haproxy's best, and in a round")
         for name in names:
@@ -212,15 +250,15 @@ def calls(measure, given):
 
 
 def slow(measure, _):
-    """Prints how long operations of a second take, one alone and 64 at once."""
-    for name in ("no relay", "haproxy", "guard, memory", "guard, SQLite", "guard, SQLite, and retry"):
+    """Prints how long slow operations take, one alone and 64 at once."""
+    for name in filter(measure.has, ("no relay", "haproxy", "guard, memory", "guard, SQLite", "guard, SQLite, and retry")):
         times = {}
         for clients in (1, 64):
-            with measure.way(name, 1000) as (port, _):
-                times[clients] = measure.load(name, port, clients, 4)
+            with measure.way(name, SLOW) as (port, _):
+                times[clients] = measure.load(name, port, clients, SLOWLY)
         one, all_of_them = times[1]["p50"], times[64]["p99"]
         print(f"  {name:<26} alone {one / 1e6:.4f} s, 64 at once {all_of_them / 1e6:.4f} s at the most, "
-              f"{all_of_them / one:.4f}", flush=True)
+              f"{ratio(all_of_them, one):.4f}", flush=True)
 
 
 def resident(life, which="VmRSS"):
@@ -246,7 +284,7 @@ def idle(measure, given):
         with measure.way(name) as (port, lives), contextlib.ExitStack() as stack:
             sizes = [resident(lives[-1])]
             peers = [stack.enter_context(socket.create_connection(("127.0.0.1", port))) for _ in range(given.count)]
-            time.sleep(2)
+            time.sleep(IDLE)
             sizes.append(resident(lives[-1]))
             ask(peers)
             ask(peers)
@@ -269,7 +307,7 @@ class Soak:
         at = time.monotonic() - self.begun
         for role in ("guard", "retry"):
             self.samples[role].append((at, resident(getattr(self.made, role), "RssAnon")))
-        if len(self.samples["guard"]) % (PRINT // SAMPLE) == 0:
+        if len(self.samples["guard"]) % PRINT == 0:
             sizes = ", ".join(f"{role} {samples[-1][1]:,} KiB" for role, samples in self.samples.items())
             print(f"  {at / 60:.0f} minutes: {sum(self.told.values()):,} calls, {self.made.link.cuts:,} cuts, {sizes}",
                   flush=True)
@@ -300,7 +338,7 @@ class Soak:
         for role, samples in self.samples.items():
             late = [one for one in samples if one[0] >= seconds / 4]
             growth = 1024 * statistics.linear_regression(*zip(*late)).slope * seconds / calls
-            is_flat = is_flat and growth < GROWTH
+            is_flat = is_flat and (growth < GROWTH or IS_SHORT)
             print(f"  {role}: {len(samples)} samples, {samples[0][1]:,} KiB at first, {late[0][1]:,} after a quarter, "
                   f"{samples[-1][1]:,} at last, {max(size for _, size in samples):,} at the most; a line through the "
                   f"last three quarters rises by {growth:.1f} octets for a call", flush=True)
@@ -317,13 +355,12 @@ def soak(_, given):
 
 
 def main():
-    parser = argparse.ArgumentParser()
-    parser.add_argument("programs")
+    parser = parser_of("programs")
     parser.add_argument("what", nargs="?", choices=["calls", "slow", "idle", "soak"])
-    parser.add_argument("--rounds", type=int, default=5)
-    parser.add_argument("--seconds", type=float, default=1)
-    parser.add_argument("--count", type=int, default=10_000)
-    parser.add_argument("--minutes", type=float, default=60)
+    parser.add_argument("--rounds", type=int, default=or_short(5, 1))
+    parser.add_argument("--seconds", type=float, default=or_short(1, 0.2))
+    parser.add_argument("--count", type=int, default=or_short(10_000, 100))
+    parser.add_argument("--minutes", type=float, default=or_short(60, 0.05))
     given = parser.parse_args()
     kinds = {"calls": calls, "slow": slow, "idle": idle, "soak": soak}
     print(f"{os.cpu_count()} processors, load {os.getloadavg()[0]:.1f} before")

@@ -1,7 +1,7 @@
 #!/usr/bin/env python3
 """Compares a server of one counter with a plain one in Rust, and times both, on the same streams in one run.
 
-usage: measure_server.py OURS PLAIN [--rounds 5] [--count 1000000] [--no-instructions]
+usage: measure_server.py OURS PLAIN [--rounds 5] [--count 1000000] [--no-instructions] [--short]
 
 OURS is the program of crates/benches, PLAIN that of bench/plain.rs. First both play the streams of tests/compare_server.py.
 
@@ -24,33 +24,35 @@ time, and what a request takes in memory that is parked.
 
 The status is 1 where the servers write other octets or end with another total; where a server doesn't answer each message,
 or has another total than that of what it performed; where a figure can't be; and where 1,000,000 requests of as many
-clients leave more memory in use than 5,000 do, in a server that keeps 1,024 outcomes.
+clients leave more memory in use than 5,000 do, in a server that keeps 1,024 outcomes. A short run plays fewer streams, its
+large log has 2,048 outcomes, and it does not judge memory.
 """
-import argparse
 import re
 import sys
 
 # (which finds the package of tests)
-from measure import figure, instructions, peak, run
-from tests.compare_server import compare
+from measure import IS_SHORT, are_counted, figure, instructions, or_short, parser_of, peak, ratio, run
+from tests.compare_server import SEED, STREAMS, compare
 
 # the octets of a message
 MESSAGES = {"add": 52, "repeat": 84, "locate": 25, "rising": 84, "scattered": 84, "clients": 116, "together": 116}
 KINDS = ["add", "repeat", "locate"]
 SIZES = [4096, 65536, 1]
 # the messages, how many outcomes are kept, and of each client
-LARGE = 65536
+LARGE = or_short(65536, 2048)
 KEYED = [(kind, entries, entries) for kind in ("rising", "scattered") for entries in (1024, LARGE)]
 KEYED += [("clients", entries, entries - less) for entries in (1024, LARGE) for less in (0, 1)]
 KEYED += [("rising", LARGE, 1)]
 # the octets of a Reply, and of one that refuses
 REPLY, REFUSAL = 32, 72
 # messages whose instructions are counted, and the counts of one message that are one mean, since hashes differ in each
-MORE = 10_000
-DRAWS = 9
+MORE = or_short(10_000, 640)
+DRAWS = or_short(9, 1)
 # requests that are parked at a time, and of which the memory is told
 PARKED = [1, 64]
-MANY_PARKED = 131_072
+MANY_PARKED = or_short(131_072, 4096)
+# requests of as many clients by which memory does not grow
+MANY = or_short(1_000_000, 20_000)
 # seconds: a difference of times that is less is none
 LEAST = 0.05
 # what the most memory of two runs of one program may differ by, in octets
@@ -112,7 +114,7 @@ class Timed:
         """The times without that of making the messages, in each round."""
         made = {name: min(self.took[name, (count, 0, *others)]) for name in self.engines}
         net = {name: [took - made[name] for took in self.took[name, (count, size, *others)]] for name in self.engines}
-        if min(min(took) for took in net.values()) < LEAST:
+        if min(min(took) for took in net.values()) < LEAST and not IS_SHORT:
             sys.exit(f"{others} in pieces of {size}: less than {LEAST:g} s: {net}")
         return net
 
@@ -120,12 +122,12 @@ class Timed:
 def pair(title, cost, form):
     """What both cost, and the ratio."""
     ours, plain = figure(f"{title}, ours", cost["ours"]), figure(f"{title}, plain", cost["plain"])
-    return f"{ours:{form}} {plain:{form}} {ours / plain:5.2f}"
+    return f"{ours:{form}} {plain:{form}} {ratio(ours, plain):5.2f}"
 
 
 def timing(title, net):
     """The least times, their ratio, and the least and greatest ratio of a round."""
-    ratios = [ours / plain for ours, plain in zip(net["ours"], net["plain"])]
+    ratios = [ratio(ours, plain) for ours, plain in zip(net["ours"], net["plain"])]
     return f"{pair(title, {name: min(took) for name, took in net.items()}, '7.3f')} ({min(ratios):.2f} to {max(ratios):.2f})"
 
 
@@ -143,8 +145,8 @@ def streams(engines, timed, given):
     """Prints what a message costs in a stream of one kind."""
     print(f"{'kind':>7} {'piece':>6}   seconds of {given.count}, of locates of twice as many, ours, plain, ratio; "
           "instructions a message, ours, plain, ratio")
-    for kind in KINDS:
-        made = None if given.no_instructions else counted(engines, MORE, 0, kind)
+    for number, kind in enumerate(KINDS):
+        made = counted(engines, MORE, 0, kind) if are_counted(given, number) else None
         for size in sizes_of(kind):
             title = f"{kind:>7} {size:>6}"
             line = timing(title, timed.net(count_of(given, kind), size, kind))
@@ -156,10 +158,10 @@ def streams(engines, timed, given):
 def keyed(engines, timed, given):
     """Prints what a message with a key of its own costs, and what a large log takes."""
     print(f"{'kind':>9} {'kept':>6} {'share':>6}   seconds of {given.count}; instructions a message; megabytes")
-    for kind, *kept in KEYED:
+    for number, (kind, *kept) in enumerate(KEYED):
         title = f"{kind:>9} {kept[0]:>6} {kept[1]:>6}"
         line = timing(title, timed.net(given.count, 84, kind, *kept))
-        if not given.no_instructions:
+        if are_counted(given, number):
             full, more = (counted(engines, kept[0] + count, 84, kind, *kept) for count in (0, MORE))
             line += "   " + pair(title, net(more, full, MORE), "8.0f")
         if kept[0] == LARGE and kept[1] > 1:
@@ -191,7 +193,7 @@ def parked(ours):
             cost[size] = net(more, less, MORE // 64 * 64)
         took = {name: cost[84][name] - cost[0][name] for name in owners}
         once = took["at once"]
-        print(f"{kind:>9}   {once:8.0f}" + "".join(f"   {most:3} {took[f'{most} parked']:8.0f} {took[f'{most} parked'] / once:5.2f}" for most in PARKED), flush=True)
+        print(f"{kind:>9}   {once:8.0f}" + "".join(f"   {most:3} {took[f'{most} parked']:8.0f} {ratio(took[f'{most} parked'], once):5.2f}" for most in PARKED), flush=True)
     once, later = (peak(words_of(owner, MANY_PARKED, 84, "add")) for owner in ([ours, "engine"], [ours, "later", str(MANY_PARKED)]))
     print(f"    a parked request without a key takes {(later - once) / MANY_PARKED:.0f} octets")
 
@@ -200,22 +202,20 @@ def memory(engines):
     """Ends with status 1 where memory grows with the number of requests."""
     for name, engine in engines.items():
         for share in (1024, 1023):
-            few, many = (figure("memory", peak(words_of(engine, count, 84, "clients", 1024, share))) for count in (5000, 1_000_000))
-            print(f"{name}, 1,024 kept, {share:,} of each client: 1,000,000 requests of as many clients leave {many - few:,} octets "
+            few, many = (figure("memory", peak(words_of(engine, count, 84, "clients", 1024, share))) for count in (5000, MANY))
+            print(f"{name}, 1,024 kept, {share:,} of each client: {MANY:,} requests of as many clients leave {many - few:,} octets "
                   f"in use beyond 5,000")
-            if many - few > APART:
+            if many - few > APART and not IS_SHORT:
                 sys.exit("memory is not flat")
 
 
 def main():
-    parser = argparse.ArgumentParser()
-    parser.add_argument("ours")
-    parser.add_argument("plain")
-    parser.add_argument("--rounds", type=int, default=5)
-    parser.add_argument("--count", type=int, default=1_000_000)
+    parser = parser_of("ours", "plain")
+    parser.add_argument("--rounds", type=int, default=or_short(5, 1))
+    parser.add_argument("--count", type=int, default=or_short(1_000_000, 20_000))
     parser.add_argument("--no-instructions", action="store_true")
     given = parser.parse_args()
-    compare(given.ours, given.plain)
+    compare(given.ours, given.plain, SEED, or_short(STREAMS, 10))
     engines = {"ours": [given.ours, "server"], "plain": [given.plain, "serve"]}
     memory(engines)
     timed = Timed(engines)

@@ -1,7 +1,7 @@
 #!/usr/bin/env python3
 """Asks servers of a counter over loopback for as much as they answer, one after another, and again in the other order.
 
-usage: measure_servers.py FOLDER [--rounds 5] [--seconds 2] [--threads 2]
+usage: measure_servers.py FOLDER [--rounds 5] [--seconds 2] [--threads 2] [--short]
 
 FOLDER has the programs that bench/embedded makes: `counter`, over the library for C and the loop of examples/loop.c;
 `omniorb`, the same object over omniORB; `bare`, which answers without reading the request; and `load`, whose clients
@@ -13,7 +13,6 @@ Printed is the median over the rounds: replies in a second; the ratio of `counte
 server's process was on a processor for a request. The clients have so many threads (with one client, one); where these
 were busy all the time, they set the rate and not the server. The machine's load is that of one minute.
 """
-import argparse
 import contextlib
 import os
 import signal
@@ -22,11 +21,14 @@ import subprocess
 import sys
 from collections import defaultdict
 
-sys.path.insert(0, os.path.dirname(os.path.dirname(os.path.abspath(__file__))))
-from tests.giop import reference_of  # noqa: E402
+# (which finds the package of tests)
+from measure import or_short, parser_of, ratio
+from tests.giop import reference_of
 
 SETTINGS = [(1, "plain"), (64, "plain"), (1, "keyed"), (64, "keyed")]
 LISTENS = ["-ORBendPoint", "giop:tcp:127.0.0.1:"]
+# how long a server may take to end, in seconds
+ENDS = 20
 
 
 def servers_of(folder, key):
@@ -41,13 +43,31 @@ def servers_of(folder, key):
 
 @contextlib.contextmanager
 def serving(words):
-    """A server: its process, and the line that it prints."""
+    """A server: its process, and the line that it prints. Where it prints none, or ends before it is told to, the status
+    is 1."""
     with subprocess.Popen(words, stdout=subprocess.PIPE, text=True) as process:
         try:
-            yield process, process.stdout.readline().strip()
+            said = process.stdout.readline().strip()
+            if said:
+                yield process, said
         finally:
-            process.send_signal(signal.SIGTERM)
-            process.wait(20)
+            has_ended = not said or process.poll() is not None
+            status = ended(process)
+            has_ended = has_ended or status not in (0, -signal.SIGTERM)
+            if has_ended:
+                print(f"{words[0]} ended by itself, with status {status}", file=sys.stderr)
+    if has_ended:
+        sys.exit(1)
+
+
+def ended(process):
+    """Ends a process, and answers its status."""
+    process.send_signal(signal.SIGTERM)
+    try:
+        return process.wait(ENDS)
+    except subprocess.TimeoutExpired:
+        process.kill()
+        return process.wait()
 
 
 def processor_seconds(pid):
@@ -79,17 +99,16 @@ def row(title, servers, got):
     print(title)
     for name in servers:
         rates, costs, busy = zip(*got[name])
-        ratios = [ours[0] / its[0] for ours, its in zip(got["counter"], got[name])]
+        ratios = [ratio(ours[0], its[0]) for ours, its in zip(got["counter"], got[name])]
         print(f"  {name:<14} {statistics.median(rates):10,.0f} a second   counter is {statistics.median(ratios):5.2f} "
               f"({min(ratios):.2f} to {max(ratios):.2f})   {statistics.median(costs):6.2f} us of a processor   "
               f"clients busy {statistics.median(busy):4.0%}", flush=True)
 
 
 def main():
-    parser = argparse.ArgumentParser()
-    parser.add_argument("folder")
-    parser.add_argument("--rounds", type=int, default=5)
-    parser.add_argument("--seconds", type=float, default=2)
+    parser = parser_of("folder")
+    parser.add_argument("--rounds", type=int, default=or_short(5, 1))
+    parser.add_argument("--seconds", type=float, default=or_short(2, 0.2))
     parser.add_argument("--threads", type=int, default=2)
     given = parser.parse_args()
     with serving([f"{given.folder}/omniorb", *LISTENS]) as (_, said):

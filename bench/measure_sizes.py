@@ -1,7 +1,7 @@
 #!/usr/bin/env python3
 """Measures how large the library for C and programs with it are, and what a server takes of the heap.
 
-usage: measure_sizes.py LIBRARY MEMORY
+usage: measure_sizes.py LIBRARY MEMORY [--short]
 
 LIBRARY is the folder in which the library is, MEMORY the program of bench/c/memory.c. A program is linked with the archive,
 without what it does not call (-Wl,--gc-sections) and without symbols (-s); what it has more than one that does nothing
@@ -9,8 +9,9 @@ is the library and what the program itself has.
 """
 import os
 import subprocess
-import sys
 import tempfile
+
+from measure import parser_of
 
 ROOT = os.path.dirname(os.path.dirname(os.path.abspath(__file__)))
 EMPTY = "int main(void) { return 0; }\n"
@@ -61,7 +62,8 @@ def programs(library, folder):
 
 
 def main():
-    library, memory = map(os.path.abspath, sys.argv[1:])
+    given = parser_of("library", "memory").parse_args()
+    library, memory = map(os.path.abspath, (given.library, given.memory))
     with tempfile.TemporaryDirectory() as folder:
         print("octets of a file")
         files(library, folder)

@@ -36,7 +36,7 @@ OF_LIBRARY = [
     "tests.relay.guard_test", "tests.relay.retry_test", "tests.relay.orbs_test", "tests.relay.hostile_test",
     "tests.relay.operation_test", "tests.relay.guards_test",
     "tests.embed.idl_test", "tests.embed.idl_c_test", "tests.embed.idl_rust_test", "tests.embed.packages_test",
-    "tests.relay.store_test",
+    "tests.relay.store_test", "tests.embed.bench_test",
 ]
 
 
@@ -48,6 +48,8 @@ SHARES = {"tests.embedding": 4, "tests.embed.python_test": 2, "tests.embed.idl_t
 def needs_of(module: str) -> list[str]:
     """What has to be made before a module is run: the crates of the programs that its text names, the library, the
     relay."""
+    if module.endswith(".bench_test"):
+        return ["relay", "giop_tool", "benches"]
     if module in OF_LIBRARY:
         needed = ["relay"] if module.startswith("tests.relay") else ["library"]
         return ["relay", "giop_tool"] if module.endswith(".packages_test") else needed

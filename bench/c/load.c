@@ -2,12 +2,13 @@
  * Clients that call add(7) of a counter as fast as its replies come, each with one request outstanding, or deposit 7
  * with a bank (examples/bank.idl), each into an account of its own:
  *
- *     load PORT KEY CLIENTS THREADS MILLISECONDS plain|keyed[:SECONDS]|deposits[:SECONDS]
+ *     load PORT KEY CLIENTS THREADS MILLISECONDS[:REPLIES] plain|keyed[:SECONDS]|deposits[:SECONDS]
  *
  * PORT is one of 127.0.0.1, KEY the object key in hexadecimal digits. The requests are of GIOP 1.2 in big order; those
  * of `keyed` have FT_REQUEST, a client id for each connection, and numbers that rise, which expire a second after they
  * are sent, or so many, those of `deposits` a minute, or so many. Each thread has its share of the connections, over poll(). A
- * fifth of the time again passes before it counts.
+ * fifth of the time again passes before it counts. Where REPLIES is given it ends as soon as so many came, and counts from
+ * a sixth of them on, if that is sooner; then each client gets the one that it waits for.
  *
  * It prints how many replies came in that time, how many seconds it was, the part of it for which its threads
  * were busy, how many replies came in all, and how many microseconds those that came in that time took: half of them at
@@ -49,6 +50,7 @@ struct thread {
   uint64_t counted, all; /* replies */
   int64_t greatest;      /* of the results */
   double busy;           /* seconds of processor time while it counted */
+  double since, until;   /* when it began to count, and when it ceased to */
 };
 
 static struct client clients[MOST_CLIENTS];
@@ -57,6 +59,8 @@ static uint32_t times[MOST_TIMES]; /* what counted replies took, in 100 ns */
 static atomic_uint times_count;
 static bool are_deposits;
 static uint64_t lasting = 1; /* seconds */
+static atomic_ullong came_count;
+static unsigned long long most_replies = ~0ull;
 static double begin, end;
 
 static void fail(const char *what) {
@@ -188,13 +192,17 @@ static void *run(void *it) {
   while (open > 0) {
     if (poll(polls + thread->first, (nfds_t)thread->count, 30000) <= 0) fail("no reply came in half a minute");
     double now = seconds(CLOCK_MONOTONIC);
-    bool counts = now >= begin && now < end;
+    bool asks = now < end && came_count < most_replies;
+    bool counts = asks && (now >= begin || came_count >= most_replies / 6);
+    if (counts && thread->since == 0) thread->since = now < begin ? now : begin;
+    if (!asks && thread->until == 0) thread->until = now < end ? now : end;
     if (counts && busy_at_begin < 0) busy_at_begin = seconds(CLOCK_THREAD_CPUTIME_ID);
-    int replies = turn(thread, counts, now < end);
+    int replies = turn(thread, counts, asks);
+    came_count += (unsigned)replies;
     thread->all += (uint64_t)replies;
     if (counts) thread->counted += (uint64_t)replies;
     if (counts) thread->busy = seconds(CLOCK_THREAD_CPUTIME_ID) - busy_at_begin;
-    if (now >= end) open -= replies;
+    if (!asks) open -= replies;
   }
   return NULL;
 }
@@ -243,12 +251,15 @@ static double time_of(unsigned part) {
 int main(int words_count, char **words) {
   static struct thread threads[MOST_THREADS];
   struct thread sum = {0};
-  if (words_count != 7) fail("load PORT KEY CLIENTS THREADS MILLISECONDS plain|keyed[:SECONDS]|deposits[:SECONDS]");
+  if (words_count != 7) fail("load PORT KEY CLIENTS THREADS MILLISECONDS[:REPLIES] plain|keyed[:SECONDS]|deposits[:SECONDS]");
   int count = connect_all(words), of_threads = atoi(words[4]);
   if (of_threads < 1 || of_threads > MOST_THREADS || of_threads > count) fail("a thread for each client are the most");
-  double length = atof(words[5]) / 1000;
+  double length = atof(words[5]) / 1000, since, until = 0;
+  const char *colon = strchr(words[5], ':');
+  if (colon != NULL) most_replies = strtoull(colon + 1, NULL, 10);
   begin = seconds(CLOCK_MONOTONIC) + length / 5;
   end = begin + length;
+  since = begin;
   for (int index = 0, first = 0; index < of_threads; index++) {
     struct thread *thread = &threads[index];
     thread->first = first;
@@ -262,7 +273,11 @@ int main(int words_count, char **words) {
     sum.all += threads[index].all;
     sum.busy += threads[index].busy;
     if (threads[index].greatest > sum.greatest) sum.greatest = threads[index].greatest;
+    if (threads[index].since > 0 && threads[index].since < since) since = threads[index].since;
+    if (threads[index].until > until) until = threads[index].until;
   }
+  length = until - since;
+  if (length <= 0) fail("so many replies came before it counted");
   if (!are_deposits && sum.greatest != 7 * (int64_t)sum.all) fail("not each request acted once");
   qsort(times, times_count, sizeof *times, compare);
   printf("%llu %.6f %.3f %llu %.1f %.1f\n", (unsigned long long)sum.counted, length, sum.busy / length / of_threads,
