@@ -1,17 +1,8 @@
 //! The lines that show a reference to a person: with the standard's names, and what its octets say.
 
-use giop_text::{digits_of, profile_name, put_component, text_of};
+use giop_text::{digits_of, host_port, profile_name, put_component, text_of};
 use ior_core::{Component, IiopProfile, Ior, IorError, Profile, TAG_INTERNET_IOP, read_iiop};
 use std::alloc::{AllocError, Global};
-
-/// Appends an address: its host and its port. A host that has colons, as an address of IPv6, stands in brackets.
-fn put_address(alloc: Global, host: &[u8], port: u16, text: &mut String) -> Result<(), AllocError> {
-    let name = text_of(alloc, host)?;
-    if host.contains(&b':') {
-        return write!(text, "[{name}]:{port}");
-    }
-    write!(text, "{name}:{port}")
-}
 
 /// Appends the line of a component.
 fn put_line(alloc: Global, component: &Component, text: &mut String) -> Result<(), AllocError> {
@@ -31,7 +22,7 @@ fn put_key(alloc: Global, key: &[u8], text: &mut String) -> Result<(), AllocErro
 fn put_iiop(alloc: Global, profile: &IiopProfile, text: &mut String) -> Result<(), AllocError> {
     let minor = profile.minor;
     write!(text, "iiop 1.{minor} ")?;
-    put_address(alloc, &profile.host, profile.port, text)?;
+    text.push_str(&host_port(alloc, &profile.host, profile.port)?)?;
     text.push_str(" key ")?;
     put_key(alloc, &profile.object_key, text)?;
     text.push('\n')?;
