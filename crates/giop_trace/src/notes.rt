@@ -1,5 +1,6 @@
-//! What tshark says of a stream beside its octets.
+//! What tshark says of a stream beside its octets, and what its lines without octets are.
 
+use crate::follow::are_digits;
 use std::str;
 
 /// What a line says that has no octets.
@@ -41,4 +42,33 @@ const AFTER: &[u8] = b" bytes missing in capture file]";
 pub(crate) fn missing_in(octets: &[u8]) -> Option<u64> {
     let text = octets.strip_suffix(b"\0").unwrap_or(octets);
     number_in(text.strip_prefix(BEFORE)?.strip_suffix(AFTER)?)
+}
+
+/// Whether a line is one of a dump of packets: the place of its octets, two spaces, an octet and a space.
+pub(crate) fn is_dump(line: &[u8]) -> bool {
+    match line {
+        [a, b, c, d, b' ', b' ', e, f, b' ', ..] => are_digits(&[*a, *b, *c, *d, *e, *f]),
+        _ => false,
+    }
+}
+
+/// Whether a line says nothing: it is blank, or a rule of equals signs.
+pub(crate) fn is_silent(line: &[u8]) -> bool {
+    for octet in line {
+        if !octet.is_ascii_whitespace() && *octet != b'=' {
+            return false;
+        }
+    }
+    true
+}
+
+/// The first line of octets, and its end with what stands behind it, if one ends there.
+pub(crate) fn first_line(octets: &[u8]) -> Option<(&[u8], &[u8])> {
+    match octets
+        .iter()
+        .position(|octet| matches!(octet, b'\n' | b'\r'))
+    {
+        Some(place) => Some(octets.split_at(place)),
+        None => None,
+    }
 }

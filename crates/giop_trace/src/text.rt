@@ -1,8 +1,8 @@
 //! The connections in what tshark prints, line by line, each handed on as soon as it is its turn.
 
 use crate::block::{Block, Piece};
-use crate::follow::{Line, LineError, are_digits, line_of};
-use crate::notes::{Note, missing_in, note_of};
+use crate::follow::{Line, LineError, line_of};
+use crate::notes::{Note, first_line, is_dump, is_silent, missing_in, note_of};
 use crate::packets::Packets;
 use crate::session::Session;
 use crate::sink::Sink;
@@ -53,31 +53,6 @@ pub(crate) struct Text {
 
 /// So many octets of memory are taken at most by those that wait for their turn.
 const MOST_WAITING: u64 = 67_108_864;
-
-/// Whether a line is one of a dump of packets: the place of its octets, two spaces, an octet and a space.
-fn is_dump(line: &[u8]) -> bool {
-    match line {
-        [a, b, c, d, b' ', b' ', e, f, b' ', ..] => are_digits(&[*a, *b, *c, *d, *e, *f]),
-        _ => false,
-    }
-}
-
-/// Whether a line says nothing: it is blank, or a rule of equals signs.
-fn is_silent(line: &[u8]) -> bool {
-    for octet in line {
-        if !octet.is_ascii_whitespace() && *octet != b'=' {
-            return false;
-        }
-    }
-    true
-}
-
-/// Where a line ends in octets, if one does.
-fn end_in(octets: &[u8]) -> Option<usize> {
-    octets
-        .iter()
-        .position(|octet| matches!(octet, b'\n' | b'\r'))
-}
 
 /// What a line without octets shows.
 fn found_in(line: &[u8]) -> Found {
@@ -390,10 +365,9 @@ impl Text {
     ) -> Result<(), Stop> {
         let mut left = octets;
         for _ in 0..u64::MAX {
-            let Some(place) = end_in(left) else {
+            let Some((line, rest)) = first_line(left) else {
                 break;
             };
-            let (line, rest) = left.split_at(place);
             self.end_line(line, session, out)?;
             if rest.starts_with(b"\n") {
                 self.number = self.number.saturating_add(1);
