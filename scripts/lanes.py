@@ -93,7 +93,8 @@ class Run:
 
     def left(self) -> int:
         """About how many minutes are left, by what the parts took before and the pace of this run."""
-        ended = [it for it in self.done.values() if it.is_well]
+        # (what only makes something may have been kept)
+        ended = [it for it in self.done.values() if it.is_well and not it.makes]
         before = sum(map(self.took.of, ended))
         pace = sum(it.took for it in ended) / before if before > 60 else 1.0
         now = time.monotonic()
