@@ -30,8 +30,8 @@ OMNIORB = "/usr/share/idl/omniORB"
 FOLDERS = (OMNIORB, os.path.join(OMNIORB, "COS"))
 # how many of them the front end of omniidl takes
 TAKEN = 61
-# .. what declares all that another one declares
-TWICE = "Naming"
+# .. what declares all that another one declares, so that it is made in a folder of its own
+TWICE = "Naming.idl"
 # how many random files a seed stands for
 COUNT = 4
 OF_C = ["-std=c11", "-Wall", "-Wextra", "-Wpedantic", "-Wshadow", "-Wconversion"]
@@ -106,43 +106,50 @@ class OmniOrb(unittest.TestCase):
         want_files()
         top = tempfile.TemporaryDirectory(prefix="idl_files")
         cls.addClassCleanup(top.cleanup)
-        cls.folder = os.path.join(top.name, "made")
-        cls.judge = Judge(cls.folder)
+        cls.judge, cls.apart = (Judge(os.path.join(top.name, name)) for name in ("made", "apart"))
         paths = [path for folder in FOLDERS for path in sorted(glob.glob(os.path.join(folder, "*.idl")))]
         words = [tool("omniidl"), *(f"-I{folder}" for folder in FOLDERS)]
         # (two of them end the front end by a signal)
         cls.taken = [path for path in paths if subprocess.run([*words, path], capture_output=True, check=False,
                                                               timeout=idl_test.SECONDS).returncode == 0]
-        cls.ran = omniidl(cls.taken, cls.folder, "-Wbpartial," + ",".join(LANGUAGES))
+        words = "-Wbpartial," + ",".join(LANGUAGES)
+        twice = [path for path in cls.taken if os.path.basename(path) == TWICE]
+        cls.ran = omniidl([path for path in cls.taken if path not in twice], cls.judge.folder, words)
+        cls.ran_apart = omniidl(twice, cls.apart.folder, words)
 
     def test_taken(self) -> None:
         """Each is taken, and of what is left out there is a line."""
         self.assertEqual(len(self.taken), TAKEN)
-        self.assertEqual(self.ran.returncode, 0, self.ran.stderr)
-        self.assertEqual(len(self.judge.names(".py")), TAKEN)
+        for ran in (self.ran, self.ran_apart):
+            self.assertEqual(ran.returncode, 0, ran.stderr)
+        self.assertEqual(len(self.judge.names(".py") + self.apart.names(".py")), TAKEN)
         self.assertIn(os.path.join(FOLDERS[1], "CosEventComm.idl:17: Warning: any: the operation is a raw one"),
                       self.ran.stderr)
 
     def test_c(self) -> None:
         """All sources in C compile."""
-        self.judge.compiles("gcc", ".c", OF_C, TWICE)
+        for judge in (self.judge, self.apart):
+            judge.compiles("gcc", ".c", OF_C)
 
     @base.each_seed(1, 1)
     def test_cpp(self, seed: int) -> None:
         """All headers in C++ compile, by either compiler a half of them, which the seed says."""
-        names = [name for name in self.judge.names(".hpp", TWICE) if name.endswith("_idl.hpp")]
+        names = [name for name in self.judge.names(".hpp") if name.endswith("_idl.hpp")]
         random.Random(seed).shuffle(names)
         half = {name[:-len("_idl.hpp")] for name in names[:len(names) // 2]}
-        self.judge.compiles("g++", ".hpp", OF_CPP, TWICE, *half)
-        self.judge.compiles("clang++", ".hpp", OF_CPP, TWICE, *{name[:-len("_idl.hpp")] for name in names} - half)
+        self.judge.compiles("g++", ".hpp", OF_CPP, *half)
+        self.judge.compiles("clang++", ".hpp", OF_CPP, *{name[:-len("_idl.hpp")] for name in names} - half)
+        self.apart.compiles("g++", ".hpp", OF_CPP)
 
     def test_python(self) -> None:
         """All modules of Python are imported, and have their types."""
-        self.judge.python()
+        for judge in (self.judge, self.apart):
+            judge.python()
 
     def test_rust(self) -> None:
         """All modules of Rust compile."""
-        self.judge.rust("omniorb-files")
+        for judge, name in ((self.judge, "omniorb-files"), (self.apart, "omniorb-naming")):
+            judge.rust(name)
 
 
 @needs("omniidl", "gcc", "g++", "clang++", "mypy", "cargo-clippy")
