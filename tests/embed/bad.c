@@ -2,7 +2,9 @@
  * Calls that the header refuses, and others at the edge of what it takes: each answers its error, and after it
  * everything is as it was, which a good call shows. Where more than one error could be meant, no call is made.
  */
+#define _DEFAULT_SOURCE
 #include <stdlib.h>
+#include <sys/mman.h>
 
 #include "check.h"
 
@@ -1271,6 +1273,21 @@ static void slots_are_closed_by_kind(void) {
   }
 }
 
+/* A key of one octet more than a sequence can have, 4 GiB: pages that nobody writes take no memory. */
+static void calls_have_a_size(void) {
+  size_t size = (size_t)1 << 32;
+  void *key = mmap(NULL, size, PROT_READ, MAP_PRIVATE | MAP_ANONYMOUS | MAP_NORESERVE, -1, 0);
+  lr_client client = LR_INIT;
+  if (!CHECK(key != MAP_FAILED)) return;
+  WANT(lr_client_open(&client, "A", 1), LR_OK);
+  WANT(lr_client_call(&client, NOW, LATER, key, size, "add", 3, one_long, 1, LR_ORDER_BIG, "\0\0\0\5", 4), LR_E_LONG);
+  WANT(lr_client_call_raw(&client, NOW, LATER, LR_WISH_FULL, key, size, "add", 3, LR_ORDER_BIG, NULL, 0, "", 0),
+       LR_E_LONG);
+  client_works(&client, 0);
+  lr_close(&client);
+  munmap(key, size);
+}
+
 int main(void) {
   WANT(lr_version(), LR_VERSION_NUMBER);
   heaps_are_set_first();
@@ -1290,6 +1307,7 @@ int main(void) {
   objects_are_identified();
   client_names_are_refused();
   clients_refuse();
+  calls_have_a_size();
   assemblers_refuse();
   faults_are_named();
   messages_are_refused();

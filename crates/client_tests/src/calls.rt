@@ -6,7 +6,6 @@ use crate::steps::Step::{Calls, Cancels, Completes, Connects, Loses, Recalls, Sk
 use crate::steps::{Step, assert_given};
 use ft_client::{CallError, RecallError};
 use giop_core::Version;
-use std::alloc::Global;
 use std::test::Fail;
 
 static AGAIN: [Step; 8] = [
@@ -35,29 +34,6 @@ static TOO_LATE: [Step; 2] = [
 fn an_expired_call_is_refused(rt: HostRuntime) -> Result<(), Fail> {
     let mut one = client(rt.alloc())?;
     assert_given(&rt, &mut one, &TOO_LATE)
-}
-
-/// One octet more than a sequence can have: 4 GiB.
-fn too_many(alloc: Global) -> Result<Vec<u8>, Fail> {
-    let part = vec![in alloc; 0; 1 << 20]?;
-    let mut octets = Vec::with_capacity(alloc, 1 << 32)?;
-    for _ in 0..1 << 12 {
-        octets.extend_from_slice(&part)?;
-    }
-    Ok(octets)
-}
-
-/// After a call that was too long.
-static AFTERWARDS: [Step; 2] = [Calls(50, 7, Ok(1), &[]), Connects(50, &[ADD_7])];
-
-#[test]
-fn a_call_too_long_is_refused_without_a_connection(rt: HostRuntime) -> Result<(), Fail> {
-    let mut one = client(rt.alloc())?;
-    let mut out = Vec::new(rt.alloc());
-    let key = too_many(rt.alloc())?;
-    let refused = one.call(50, &key, b"add", &[], 100, &mut out);
-    assert!(rt; refused == Err(CallError::TooLong) && out.is_empty());
-    assert_given(&rt, &mut one, &AFTERWARDS)
 }
 
 static EXPIRES: [Step; 8] = [
