@@ -816,7 +816,9 @@ LR_API int64_t lr_write_ft(void *room, size_t size, uint32_t order, const void *
 
 /* ---- references ---- */
 
-/* Reads a stringified reference, "IOR:" and hexadecimal digits. LR_E_OPEN, LR_E_REFERENCE, LR_E_MEMORY. */
+/* Reads a stringified reference, "IOR:" and hexadecimal digits; or a URL, as "corbaloc::host:2809/key" (CORBA 3.3 Part 2,
+ * 7.6.10): a reference without a type to the addresses of IIOP that it names, 64 at most. LR_E_OPEN, LR_E_REFERENCE (it
+ * is neither), LR_E_MEMORY. */
 LR_API int64_t lr_ior_parse(lr_ior *ior, const void *text, size_t size);
 
 /* A reference of a type to an object at an address of IIOP 1.minor. LR_E_OPEN, LR_E_RANGE (minor is over 2),

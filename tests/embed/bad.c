@@ -1131,9 +1131,29 @@ static void places_are_refused(void) {
 
 /* ---- references ---- */
 
+/* A URL: an address of IIOP for each that it names, with its key. */
+static void urls_are_read(void) {
+  lr_ior ior = LR_INIT;
+  lr_profile profile;
+  WANT(lr_ior_parse(&ior, LR_TEXT("corbaloc:iiop:1.2@host:2810,:[::1]/c%20d")), LR_OK);
+  WANT(lr_ior_parse(&ior, LR_TEXT("corbaloc::host/c")), LR_E_OPEN);
+  WANT(lr_ior_type_id(&ior, NULL, 0), 0);
+  WANT(lr_ior_profiles(&ior), 2);
+  WANT(lr_ior_profile(&ior, 0, &profile, sizeof profile), LR_OK);
+  CHECK(profile.is_iiop == 1 && profile.minor == 2 && profile.port == 2810 && profile.components == 0);
+  WANT(lr_ior_part(&ior, 0, LR_IOR_KEY, room, sizeof room), 3);
+  CHECK(memcmp(room, "c d", 3) == 0);
+  WANT(lr_ior_profile(&ior, 1, &profile, sizeof profile), LR_OK);
+  CHECK(profile.is_iiop == 1 && profile.minor == 0 && profile.port == 2809);
+  WANT(lr_ior_part(&ior, 1, LR_IOR_HOST, room, sizeof room), 3);
+  CHECK(memcmp(room, "::1", 3) == 0);
+  lr_close(&ior);
+}
+
 static void references_are_refused(void) {
   static const char *const texts[] = {
-      "", "I", "IOR", "IOR:", "IOR:0", "IOR:zz", "IOR:00", "JOR:00", "corbaloc::host:2809/c", "IOR:0000000000000000 "};
+      "", "I", "IOR", "IOR:", "IOR:0", "IOR:zz", "IOR:00", "JOR:00", "IOR:0000000000000000 ",
+      "corbaloc", "corbaloc:", "corbaloc:/c", "corbaloc:rir:/c", "corbaloc::host:x/c", "corbaloc::host/%0g"};
   lr_ior ior = LR_INIT, other = LR_INIT;
   lr_profile profile;
   memset(&profile, 0xee, sizeof profile);
@@ -1294,6 +1314,7 @@ int main(void) {
   faults_are_named();
   messages_are_refused();
   places_are_refused();
+  urls_are_read();
   references_are_refused();
   moments_are_counted();
   errors_have_texts();

@@ -673,7 +673,7 @@ class References(Case):
         self.assertEqual((nil.type_id, nil.profiles), ("", ()))
 
     def test_what_is_none(self):
-        for bad in ("", "IOR", "IOR:", "IOR:0", "IOR:0g", "corbaloc::h/k", COUNTER[:-20], "IOR:\u20ac", COUNTER[4:]):
+        for bad in ("", "IOR", "IOR:", "IOR:0", "IOR:0g", "corbaloc:rir:/k", COUNTER[:-20], "IOR:\u20ac", COUNTER[4:]):
             with self.subTest(bad):
                 self.fails(Error.REFERENCE, lr.Ior.parse, bad)
         self.fails(Error.RANGE, lr.Ior.iiop, "IDL:X:1.0", "h", 1, b"k", 3)
