@@ -7,6 +7,7 @@ use std::env;
 use std::io::{BufRead, BufReader, Write};
 use std::net::TcpListener;
 use std::process::{Child, ChildStdin, ChildStdout, Command, Stdio};
+use std::sync::atomic::{AtomicU32, Ordering};
 use std::sync::{PoisonError, Weak};
 use tokio_postgres::{Client, NoTls};
 
@@ -31,7 +32,10 @@ impl Server {
     fn new(name: &str) -> Server {
         let listener = TcpListener::bind("127.0.0.1:0").unwrap();
         let port = listener.local_addr().unwrap().port();
-        let name = format!("lemonrudder-{}-{name}.postgres", std::process::id());
+        // (one that is shared may begin while an earlier one still ends)
+        static BEGUN: AtomicU32 = AtomicU32::new(0);
+        let number = BEGUN.fetch_add(1, Ordering::Relaxed);
+        let name = format!("lemonrudder-{}-{name}-{number}.postgres", std::process::id());
         let server = Server { bin: programs(), folder: env::temp_dir().join(name), port };
         _ = std::fs::remove_dir_all(&server.folder);
         std::fs::create_dir(&server.folder).unwrap();
