@@ -11,7 +11,7 @@ use crate::report::{Report, mixed};
 use crate::stop::Stop;
 use crate::words::number;
 use giop_core::{Content, Header, Message, Target, read_message};
-use giop_frames::{Assembler, Limits};
+use giop_frames::{Assembler, Cuts, Limits};
 use ior_core::parse_text;
 use std::alloc::{AllocError, Global};
 
@@ -52,6 +52,7 @@ impl Kind {
 const LIMITS: Limits = Limits {
     message: 1_048_576,
     partials: 8,
+    cuts: Cuts::Aligned,
 };
 
 /// How many messages completed, and a checksum of their fields.

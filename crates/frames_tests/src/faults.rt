@@ -1,13 +1,14 @@
 //! Where the frame of a fault begins, by octets that are given as they are needed.
 
 use crate::samples::{FIRST, LAST, MIDDLE, WHOLE};
-use giop_frames::{Assembler, Limits};
+use giop_frames::{Assembler, Cuts, Limits};
 use std::alloc::{AllocError, Global};
 use std::process::Abort;
 
 const LIMITS: Limits = Limits {
     message: 1_048_576,
     partials: 8,
+    cuts: Cuts::Aligned,
 };
 
 /// Twelve octets that are no header.

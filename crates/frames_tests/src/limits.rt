@@ -1,6 +1,6 @@
 //! Limits by their numbers.
 
-use giop_frames::Limits;
+use giop_frames::{Cuts, Limits};
 use std::process::Abort;
 
 /// How many octets a message may have, how many messages may be partial, and whether both numbers lie in
@@ -17,7 +17,7 @@ static ROWS: [(u32, u8, bool); 7] = [
 
 /// Whether these are the limits.
 fn are(limits: Limits, message: u32, partials: u8) -> bool {
-    limits.message == message && limits.partials == partials
+    limits.message == message && limits.partials == partials && limits.cuts == Cuts::Aligned
 }
 
 #[test]
@@ -35,4 +35,13 @@ fn limits_have_ranges(rt: HostRuntime) {
 #[test]
 fn limits_by_default(rt: HostRuntime) {
     assert!(rt; are(Limits::default(), 1_048_576, 8));
+}
+
+#[test]
+fn limits_with_other_cuts(rt: HostRuntime) {
+    let limits = Limits::default().with_cuts(Cuts::Anywhere);
+    assert!(rt; limits.message == 1_048_576 && limits.partials == 8);
+    assert!(rt;
+        limits.cuts == Cuts::Anywhere && are(limits.with_cuts(Cuts::Aligned), 1_048_576, 8)
+    );
 }

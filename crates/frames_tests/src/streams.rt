@@ -2,13 +2,15 @@
 
 use crate::samples::{
     CANCEL, FIRST, FIRST_11, LAST, LAST_11, LITTLE_FIRST, LITTLE_LAST, MIDDLE, MIDDLE_11, WHOLE,
+    WHOLE_11,
 };
 use crate::stream_rows::{ROWS, Row};
 use cdr_core::Order;
 use giop_core::{Content, Header, Message, MessageKind, Version};
-use giop_frames::{Assembler, Limits, StreamFault};
-use std::alloc::Global;
+use giop_frames::{Assembler, Cuts, Limits, StreamFault};
+use std::alloc::{AllocError, Global};
 use std::process::Abort;
+use std::test::Fail;
 
 /// How many octets a piece has.
 static SIZES: [usize; 3] = [1, 13, 4096];
@@ -16,12 +18,14 @@ static SIZES: [usize; 3] = [1, 13, 4096];
 const LIMITS: Limits = Limits {
     message: 1_048_576,
     partials: 8,
+    cuts: Cuts::Aligned,
 };
 
 /// The least limits.
 const LEAST: Limits = Limits {
     message: 4096,
     partials: 1,
+    cuts: Cuts::Aligned,
 };
 
 /// Feeds a piece, and counts the messages that it completes.
@@ -142,6 +146,36 @@ fn joined_messages_are_lent(rt: HostRuntime) {
     );
     let body = b"\x00\x00\x00\x07";
     assert!(rt; lends(rt.alloc(), &[FIRST_11, MIDDLE_11, LAST_11], body));
+}
+
+/// Whether a Request of 1.1 of 48 octets completes that is cut after so many of its octets, under limits with cuts.
+fn lends_cut(alloc: Global, cuts: Cuts, at: u8) -> Result<bool, AllocError> {
+    let (front, back) = WHOLE_11.split_at(usize::from(at));
+    let mut first = front.to_vec(alloc)?;
+    first[6] = 2;
+    first[11] = at.saturating_sub(12);
+    let mut last = b"GIOP\x01\x01\x00\x07\x00\x00\x00\x00".to_vec(alloc)?;
+    last[11] = 48u8.saturating_sub(at);
+    last.extend_from_slice(back)?;
+    let mut assembler = Assembler::new(alloc, LIMITS.with_cuts(cuts));
+    if !are_taken(&mut assembler, &[&first, &last]) {
+        return Ok(false);
+    }
+    Ok(match assembler.message() {
+        Some(message) => is_add(&message, b"\x00\x00\x00\x07"),
+        None => false,
+    })
+}
+
+#[test]
+fn a_message_of_1_1_is_joined_wherever_it_may_be_cut(rt: HostRuntime) -> Result<(), Fail> {
+    for at in 12..=48 {
+        let is_aligned = lends_cut(rt.alloc(), Cuts::Aligned, at)?;
+        assert!(rt; is_aligned == (at % 8 == 4), "{at}");
+        let is_taken = lends_cut(rt.alloc(), Cuts::Anywhere, at)?;
+        assert!(rt; is_taken, "{at}");
+    }
+    Ok(())
 }
 
 /// The header of the Request of id 5 whose fragments are joined, which has 52 octets with it.

@@ -8,6 +8,7 @@ use Rattle.giop_core.specs.declared.header.Version.TheVariants.{V10, V12}
 use Rattle.giop_core.specs.declared.reply.ReplyStatus.TheVariants.{LocationForward, NoException}
 use Rattle.giop_core.specs.declared.request.ReplyWish.{ReplyWish}
 use Rattle.giop_core.specs.declared.request.ReplyWish.TheVariants as wish
+use Rattle.giop_frames.specs.declared.limits.Cuts.TheVariants.{Aligned}
 use Rattle.giop_frames.specs.declared.limits.Limits.{Limits}
 use Rattle.giop_link.specs.Hearing.{Ending, Hearing, peer_closed}
 use Rattle.ft_client.specs.Clients.{Called, Cancelled, Expired, Fed, Happening, Joined, KeptForwards, Parted, Recalled, Redirected, Resent, Resumed, Sent, Skipped, Taken, Ticked, Told, first_led, fits, new_client, says, transmission}
@@ -16,7 +17,7 @@ use Rattle.ft_client.specs.Lives.{Life, lived, new_life}
 use Rattle.ft_client.specs.Messages.{Answer, Call, Transmission, Withdrawn, contexts_of, located, raw, replied, typed}
 
 abbrev limits : Limits
-limits = record { message = 4096; partials = 1; message_in_range = (lit≤ tt, lit≤ tt); partials_in_range = (lit≤ tt, lit≤ tt) }
+limits = record { message = 4096; partials = 1; cuts = Aligned; message_in_range = (lit≤ tt, lit≤ tt); partials_in_range = (lit≤ tt, lit≤ tt) }
 
 -- a peer whose messages are one octet each: 0 closes, n is a reply to request n, 101 one to a locate of the id 1, and 201 a reply to
 -- request 1 that forwards

@@ -20,6 +20,7 @@ use Rattle.giop_core.specs.declared.reply.ReplyStatus.TheVariants.{LocationForwa
 use Rattle.giop_frames.specs.Fragments.{judged_as, judged_by}
 use Rattle.giop_frames.specs.Frames.{sight, split}
 use Rattle.giop_frames.specs.Streams.{fault_of, messages_of, rest_of}
+use Rattle.giop_frames.specs.declared.limits.Cuts.TheVariants.{Aligned}
 use Rattle.giop_frames.specs.declared.limits.Limits.{Limits}
 use Rattle.giop_link.specs.Hearing.{ending_as, heard_as, sound_of}
 use Rattle.ft_log.specs.Performed.{Performed, raw, returned, system}
@@ -60,7 +61,7 @@ counter = record {
 }
 
 abbrev limits : Limits
-limits = record { message = 4096; partials = 1; message_in_range = (lit≤ tt, lit≤ tt); partials_in_range = (lit≤ tt, lit≤ tt) }
+limits = record { message = 4096; partials = 1; cuts = Aligned; message_in_range = (lit≤ tt, lit≤ tt); partials_in_range = (lit≤ tt, lit≤ tt) }
 
 abbrev made : Made ℤ
 made = record { limits = limits; capacity = 1024; share = 1024; opening = pos 0 }

@@ -6,6 +6,7 @@ use Rattle.cdr_core.specs.Parts.{longlong_value}
 use Rattle.cdr_core.specs.Value.{no_values, values}
 use Rattle.giop_core.specs.Written.{behind_header}
 use Rattle.giop_core.specs.declared.header.Version.TheVariants.{V12}
+use Rattle.giop_frames.specs.declared.limits.Cuts.TheVariants.{Aligned}
 use Rattle.giop_frames.specs.declared.limits.Limits.{Limits}
 use Rattle.giop_link.specs.Hearing.{Ending, peer_closed}
 use Rattle.cdr_core.specs.declared.order.Order.TheVariants.{Big}
@@ -84,7 +85,7 @@ abbrev sides : Sides
 sides = record { said = octets_of_said; telling = octets_of_telling; hears = λ own. record { heard = heard_in; ending = ending_in }; says = says }
 
 abbrev limits : Limits
-limits = record { message = 4096; partials = 1; message_in_range = (lit≤ tt, lit≤ tt); partials_in_range = (lit≤ tt, lit≤ tt) }
+limits = record { message = 4096; partials = 1; cuts = Aligned; message_in_range = (lit≤ tt, lit≤ tt); partials_in_range = (lit≤ tt, lit≤ tt) }
 
 -- `add` of the object `c`, until the moment 100
 abbrev add : Call

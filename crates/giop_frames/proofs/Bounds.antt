@@ -45,7 +45,7 @@ admit false e h r is = (refl, is)
 pub admitted-within : (limits : Limits) (h k : Header) → admitted limits h ≡ Ok k → (h ≡ k) × (frame_size k ≤ limits.message)
 admitted-within limits h k e =
     let a = admit (nat_lt limits.message (frame_size h)) TooLarge k _ e in
-    let b = admit (is_unaligned h) UnalignedFragment k (Ok h) a.1 in
+    let b = admit (is_unaligned limits.cuts h) UnalignedFragment k (Ok h) a.1 in
     let same : h ≡ k = ok-is h k b.1 in
     elim (test_lt limits.message (frame_size h)) [
       | inl t ↦ absurd (let w = a.0 in cc)
@@ -89,7 +89,7 @@ header-error : (limits : Limits) (r : Result Header HeaderFault) (d : StreamFaul
 header-error limits (Err e) d is = subst IsError (err-is (BadHeader e) d is) tt
 header-error limits (Ok h) d is =
     refuse (nat_lt limits.message (frame_size h)) TooLarge d _ tt
-    (refuse (is_unaligned h) UnalignedFragment d (Ok h) tt (λ k. absurd cc)) is
+    (refuse (is_unaligned limits.cuts h) UnalignedFragment d (Ok h) tt (λ k. absurd cc)) is
 
 under-error : (limits : Limits) (b : List ℕ) (j : Result Header StreamFault) (d : StreamFault) → ((e : StreamFault) → j ≡ Err e → IsError e) → under_header b j ≡ Refused d → IsError d
 under-error limits b (Err e) d err w = err d (let k : Refused e ≡ Refused d = w in cc)

@@ -49,7 +49,7 @@ possible-by V12 k b cut = or-true b (can_be_cut V12 k) cut
 is-possible : (h : Header) → can_be_cut h.version h.kind ≡ true → is_possible h ≡ true
 is-possible h cut = possible-by h.version h.kind (not h.more) cut
 
-pub admit-cut : (limits : Limits) (h : Header) → frame_size h ≤ limits.message → is_unaligned h ≡ false → admitted limits h ≡ Ok h
+pub admit-cut : (limits : Limits) (h : Header) → frame_size h ≤ limits.message → is_unaligned limits.cuts h ≡ false → admitted limits h ≡ Ok h
 admit-cut limits h fits aligned = rw (le-ltb limits.message (frame_size h) fits, aligned) refl
 
 length-digits : (order : Order) (x : ℕ) → length (digits_of order 4 x) ≡ 4
@@ -60,7 +60,7 @@ pub length-header : (h : Header) → length (header_octets h) ≡ 12
 length-header h = omega (arith, length-digits h.order h.size)
 
 pub frame-again : HeadersAreReadAgain → (limits : Limits) (f : Frame) → can_be_cut f.header.version f.header.kind ≡ true → f.header.size ≡ length f.octets → 12 + length f.octets ≤ limits.message
-    → is_unaligned f.header ≡ false → IsFrame limits f (frame_octets f)
+    → is_unaligned limits.cuts f.header ≡ false → IsFrame limits f (frame_octets f)
 frame-again again limits f cut size within aligned =
     let small : f.header.size < 2 ^ 32 = omega (arith, size, within, limits.message_in_range.1) in
     let front : take 12 (frame_octets f) ≡ header_octets f.header = take_at (header_octets f.header) f.octets 12 (length-header f.header) in

@@ -16,7 +16,7 @@ pub mod Stepping
 pub mod Alone
 pub mod Holding
 pub mod Splitting
-pub mod Cuts
+pub mod Chunks
 pub mod Positions
 pub mod Stays
 pub mod Completing

@@ -1,8 +1,7 @@
 -- What is cut is read again.
-use Rattle.std.proofs.Common.{◌≡◌, ℕ, zero, suc, ◌+◌, ◌-◌, ◌<◌, ◌≤◌, ◌%◌, ◌==◌, ◌≢◌, ◌&&◌, nat_le, not, Bool, true, false, is_some, List, [], ◌∷◌, ◌++◌, length, take, drop, Option, Some, None, Ok, IsOk, refl, sym, ap, subst, ◌∙◌, inl, inr, arith, append_assoc, length-append, length-drop}
+use Rattle.std.proofs.Common.{◌≡◌, ℕ, zero, suc, ◌+◌, ◌-◌, ◌<◌, ◌≤◌, ◌==◌, ◌≢◌, ◌&&◌, nat_le, not, Bool, true, false, is_some, List, [], ◌∷◌, ◌++◌, length, take, drop, Option, Some, None, Ok, IsOk, refl, sym, ap, subst, ◌∙◌, inl, inr, arith, append_assoc, length-append, length-drop}
 use Rattle.std.specs.List.{flat_map}
 use Rattle.std.specs.Option.{option_map}
-use Rattle.std.proofs.lemmas.Bool.{eq-eqb}
 use Rattle.std.proofs.lemmas.List.{append-nil, drop_at, drop-append-le, length-take-le, take-append-drop}
 use Rattle.cdr_core.specs.Numbers.{number_of}
 use Rattle.giop_core.specs.declared.header.Header.{Header}
@@ -20,12 +19,12 @@ use Rattle.giop_frames.specs.declared.reassembly.Role.TheVariants.{Opens, Carrie
 use Rattle.giop_frames.specs.ReadAgain.{Completes, CutIsReadAgain, is_cancel, left_by, under}
 use Rattle.giop_frames.specs.Cutting.{cut_octets, first_frame, fragment_of, fragments_of, frame_octets, is_cuttable_in, is_cuttable_under, is_fragment, chunks_from}
 use Rattle.giop_frames.specs.Fragments.{Done, Partial, Quiet, partial_of, content_of, continued_by, payload_of, id_of, is_cancelled, is_same_order, judged, key_in, key_of, less_if, may_come, partials_in, role_in, role_of}
-use Rattle.giop_frames.specs.Frames.{Frame, Split, cut_place, frame_size, id_length, is_unaligned, split, split_from}
+use Rattle.giop_frames.specs.Frames.{Frame, Split, frame_size, id_length, is_unaligned, may_be_cut, split, split_from}
 use Rattle.giop_frames.specs.Splitting.{IsFrame, Splits}
 use Rattle.giop_frames.specs.Streams.{Reading, fault_of, frames_of, messages_of, place_after, reading_from, reading_of, rest_of}
 use Rattle.giop_core.specs.Laws.{HeadersAreReadAgain}
 use Rattle.giop_frames.proofs.CutFrames.{AreFrames, admit-cut, and-not, cut-can, cut-has_id, cut-opens, cut-whole, fragment-roles, frame-again, frames-split, free-none, is_cut_kind, judged-alone, judged-carrying, judged-ending, judged-opening, key-front, key-take, same-order, whole_role}
-use Rattle.giop_frames.proofs.Cuts.{fragments-more, chunks-last, chunks-more}
+use Rattle.giop_frames.proofs.Chunks.{fragments-more, chunks-last, chunks-more}
 use Rattle.giop_frames.proofs.Deciding.{test_eq, test_key, test_le, test_lt}
 use Rattle.giop_frames.proofs.Places.{faultless-split, place-length}
 use Rattle.giop_frames.proofs.Readings.{after_messages, reading-append, step-done, step-quiet}
@@ -192,7 +191,7 @@ more-fragments h id left r some long =
 -- the Fragments of what is left, after a first frame
 
 module _ (again : HeadersAreReadAgain) (limits : Limits) (h hd : Header) (id whole : List ℕ) (r : ℕ) (cut : can_be_cut h.version Fragment ≡ true) (order : is_same_order hd.order h.order ≡ true) (full : length id ≡ id_length h.version) (some : 0 < r)
-    (aligned : (12 + (id_length h.version + r)) % 8 ≡ cut_place h.version) (within : 12 + length whole ≤ limits.message) (room : 12 + (id_length h.version + r) ≤ limits.message) (ok : IsOk (content_of (record hd { more = false; size = length whole }) whole)) where
+    (aligned : may_be_cut limits.cuts h.version (12 + (id_length h.version + r)) ≡ true) (within : 12 + length whole ≤ limits.message) (room : 12 + (id_length h.version + r) ≤ limits.message) (ok : IsOk (content_of (record hd { more = false; size = length whole }) whole)) where
   abbrev k : Key
   k = key_in h.version (number_of h.order 4 id)
 
@@ -211,13 +210,13 @@ module _ (again : HeadersAreReadAgain) (limits : Limits) (h hd : Header) (id who
   long-is : (x : List ℕ) → length (id ++ x) ≡ length id + length x
   long-is x = length-append id x
 
-  is-frame : (more : Bool) (x : List ℕ) → length x ≤ r → is_unaligned (fragment_of h id more x).header ≡ false → IsFrame limits (fragment_of h id more x) (frame_octets (fragment_of h id more x))
+  is-frame : (more : Bool) (x : List ℕ) → length x ≤ r → is_unaligned limits.cuts (fragment_of h id more x).header ≡ false → IsFrame limits (fragment_of h id more x) (frame_octets (fragment_of h id more x))
   is-frame more x short even = frame-again again limits (fragment_of h id more x) cut (sym (long-is x)) (omega (arith, long-is x, full, short, room)) even
 
-  even-is : (x : List ℕ) → length x ≡ r → is_unaligned (fragment_of h id true x).header ≡ false
+  even-is : (x : List ℕ) → length x ≡ r → is_unaligned limits.cuts (fragment_of h id true x).header ≡ false
   even-is x e =
       let size : 12 + (length id + length x) ≡ 12 + (id_length h.version + r) = omega (arith, e, full) in
-      and-not true _ (eq-eqb ((12 + (length id + length x)) % 8) (cut_place h.version) (ap (λ (n : ℕ). n % 8) size ∙ aligned))
+      and-not true _ (ap (may_be_cut limits.cuts h.version) size ∙ aligned)
 
   carries-role : role_in h.version Fragment true ≡ Carries
   carries-role = (fragment-roles h.version cut).0
@@ -353,14 +352,14 @@ module _ (again : HeadersAreReadAgain) (limits : Limits) (s message : List ℕ) 
       let fs = f ∷ [] in
       let role : role_of f.header ≡ whole_role h.version = ap (role_in h.version h.kind) c.alone ∙ cut-whole h.version h.kind c.kind in
       let long : id_length h.version ≤ length (drop 12 message) = cut-has_id h.version h.kind h.order (drop 12 message) c.kind ok in
-      let even : is_unaligned h ≡ false = ap (λ (b : Bool). b && not (frame_size h % 8 == cut_place h.version)) c.alone in
+      let even : is_unaligned limits.cuts h ≡ false = ap (λ (b : Bool). b && not (may_be_cut limits.cuts h.version (frame_size h))) c.alone in
       let frame : IsFrame limits f message = record { header = is; taken = admit-cut limits h (omega (arith, c.size, within)) even; long = sym c.size; rest = refl } in
       let verdict : judged limits (frames_of limits s) f ≡ Done f = judged-alone limits (frames_of limits s) f h.version refl role early long (λ u. new) ok in
       completes limits s n none message fs (f ∷ frames_of limits s) f (message, [], sym (append-nil message), frame, refl) (step-done limits (frames_of limits s) None f [] f verdict)
       (leaves-role f (frames_of limits s) (whole_role h.version) false role (cut-stays h.version h.kind c.kind) (leaving-whole h.version))
 
   -- in a first frame and Fragments
-  in_frames : (k : ℕ) → partials_in (frames_of limits s) < limits.partials → 20 + id_length h.version ≤ k → k % 8 ≡ cut_place h.version → k < length message
+  in_frames : (k : ℕ) → partials_in (frames_of limits s) < limits.partials → 20 + id_length h.version ≤ k → may_be_cut limits.cuts h.version k ≡ true → k < length message
       → Completes limits s (flat_map frame_octets (first_frame h (drop 12 (take k message)) ∷ fragments_of h (take (id_length h.version) (drop 12 message)) (chunks_from (k - (12 + id_length h.version)) [] (drop k message)))) (under h message)
   in_frames k free least even more =
       let whole = drop 12 message in
@@ -389,8 +388,8 @@ module _ (again : HeadersAreReadAgain) (limits : Limits) (s message : List ℕ) 
       let fit : 12 + length whole ≤ limits.message = omega (arith, within, c.long, length-drop 12 message) in
       let ended : record first.header { more = false; size = length whole } ≡ h = whole-header h (length whole) c.alone whole-size in
       let reads : IsOk (content_of (record first.header { more = false; size = length whole }) whole) = subst (λ (x : Header). IsOk (content_of x whole)) (sym ended) ok in
-      let first-frame : IsFrame limits first (frame_octets first) = frame-again again limits first can.0 refl (omega (arith, front-size, least, more, within)) (and-not true (frame_size first.header % 8 == cut_place h.version) (eq-eqb (frame_size first.header % 8) (cut_place h.version) (ap (λ (m : ℕ). m % 8) head ∙ even))) in
-      let later = reads-more again limits h first.header id whole r can.1 (same-order h.order) full (omega (arith, least)) (ap (λ (m : ℕ). m % 8) all ∙ even) fit (omega (arith, all, more, within)) reads
+      let first-frame : IsFrame limits first (frame_octets first) = frame-again again limits first can.0 refl (omega (arith, front-size, least, more, within)) (and-not true (may_be_cut limits.cuts h.version (frame_size first.header)) (ap (may_be_cut limits.cuts h.version) head ∙ even)) in
+      let later = reads-more again limits h first.header id whole r can.1 (same-order h.order) full (omega (arith, least)) (ap (may_be_cut limits.cuts h.version) all ∙ even) fit (omega (arith, all, more, within)) reads
       (length after) after (omega arith) (first ∷ earlier) front freed opened parts in
       let fs = first ∷ fragments_of h id (chunks_from r [] after) in
       let m : Frame = record { header = record first.header { more = false; size = length whole }; octets = whole } in
@@ -409,6 +408,6 @@ cut_again again v limits s message n h faultless none new early free is e least 
       | inr t ↦
           let cut : cut_octets n h message ≡ flat_map frame_octets (first_frame h (drop 12 (take n message)) ∷ fragments_of h (take (id_length h.version) (drop 12 message)) (chunks_from (n - (12 + id_length h.version)) [] (drop n message))) = rw t.0 refl in
           let long : 20 + id_length h.version ≤ n = subst (λ (w : Version). 20 + id_length w ≤ n) (sym c.version) least in
-          let place : n % 8 ≡ cut_place h.version = subst (λ (w : Version). n % 8 ≡ cut_place w) (sym c.version) even in
+          let place : may_be_cut limits.cuts h.version n ≡ true = subst (λ (w : Version). may_be_cut limits.cuts w n ≡ true) (sym c.version) even in
           subst (λ (x : List ℕ). Completes limits s x (under h message)) (sym cut) (in_frames again limits s message v h faultless none new early e c within ok n free long place t.1)
     ]

@@ -9,6 +9,7 @@ use Rattle.giop_core.specs.Headers.{header_of}
 use Rattle.giop_core.specs.Messages.{message_of}
 use Rattle.giop_core.specs.Rows.{row}
 use Rattle.giop_frames.specs.declared.fault.StreamFault.TheVariants.{StrayFragment, TwiceStarted, TooManyPartial, UnalignedFragment, TooLarge}
+use Rattle.giop_frames.specs.declared.limits.Cuts.TheVariants.{Aligned, Anywhere}
 use Rattle.giop_frames.specs.declared.limits.Limits.{Limits}
 use Rattle.giop_frames.specs.Frames.{sight, split}
 use Rattle.giop_frames.specs.Fragments.{judged_as, judged_by}
@@ -16,7 +17,7 @@ use Rattle.giop_frames.specs.ReadAgain.{Sent, sent_fault, sent_from, sent_octets
 use Rattle.giop_frames.specs.Streams.{Completed, fault_of, messages_of, rest_of}
 
 limits : Limits
-limits = record { message = 4096; partials = 1; message_in_range = (lit≤ tt, lit≤ tt); partials_in_range = (lit≤ tt, lit≤ tt) }
+limits = record { message = 4096; partials = 1; cuts = Aligned; message_in_range = (lit≤ tt, lit≤ tt); partials_in_range = (lit≤ tt, lit≤ tt) }
 
 -- the first frame of a LocateRequest of id 1, cut after its disposition and key length; 12 + 12 octets
 opening : List ℕ
@@ -131,6 +132,41 @@ another_between = refl
 unaligned_in_1_1 : fault_of limits (71 ∷ 73 ∷ 79 ∷ 80 ∷ 1 ∷ 1 ∷ 2 ∷ 0 ∷ 0 ∷ 0 ∷ 0 ∷ 20 ∷ []) ≡ Some UnalignedFragment
 unfolding of seen limits opening ending cancel again other opening_11 middle_11 ending_11 cancel_11 messages_of fault_of rest_of split sight header_of judged_by judged_as message_of row request_id_in value_at each_at boolean_at string_at text_at whole_at number_at part_at octets_at length_at
 unaligned_in_1_1 = refl
+
+-- limits that let a message of 1.1 be cut anywhere
+anywhere : Limits
+anywhere = record { message = 4096; partials = 1; cuts = Anywhere; message_in_range = (lit≤ tt, lit≤ tt); partials_in_range = (lit≤ tt, lit≤ tt) }
+
+-- the same message, cut after its seventeenth octet ..
+odd_11 : List ℕ
+odd_11 = 71 ∷ 73 ∷ 79 ∷ 80 ∷ 1 ∷ 1 ∷ 2 ∷ 0 ∷ 0 ∷ 0 ∷ 0 ∷ 17 ∷ 0 ∷ 0 ∷ 0 ∷ 0 ∷ 0 ∷ 0 ∷ 0 ∷ 5 ∷ 1 ∷ 0 ∷ 0 ∷ 0 ∷ 0 ∷ 0 ∷ 0 ∷ 1 ∷ 99 ∷ []
+
+rest_11 : List ℕ
+rest_11 = 71 ∷ 73 ∷ 79 ∷ 80 ∷ 1 ∷ 1 ∷ 0 ∷ 7 ∷ 0 ∷ 0 ∷ 0 ∷ 19 ∷ 0 ∷ 0 ∷ 0 ∷ 0 ∷ 0 ∷ 0 ∷ 4 ∷ 97 ∷ 100 ∷ 100 ∷ 0 ∷ 0 ∷ 0 ∷ 0 ∷ 0 ∷ 0 ∷ 0 ∷ 0 ∷ 7 ∷ []
+
+-- .. and after its last
+whole_11 : List ℕ
+whole_11 = 71 ∷ 73 ∷ 79 ∷ 80 ∷ 1 ∷ 1 ∷ 2 ∷ 0 ∷ 0 ∷ 0 ∷ 0 ∷ 36 ∷ 0 ∷ 0 ∷ 0 ∷ 0 ∷ 0 ∷ 0 ∷ 0 ∷ 5 ∷ 1 ∷ 0 ∷ 0 ∷ 0 ∷ 0 ∷ 0 ∷ 0 ∷ 1 ∷ 99 ∷ 0 ∷ 0 ∷ 0 ∷ 0 ∷ 0 ∷ 0 ∷ 4 ∷ 97 ∷ 100 ∷ 100 ∷ 0 ∷ 0 ∷ 0 ∷ 0 ∷ 0 ∷ 0 ∷ 0 ∷ 0 ∷ 7 ∷ []
+
+empty_11 : List ℕ
+empty_11 = 71 ∷ 73 ∷ 79 ∷ 80 ∷ 1 ∷ 1 ∷ 0 ∷ 7 ∷ 0 ∷ 0 ∷ 0 ∷ 0 ∷ []
+
+joined_at_an_odd_octet : seen (messages_of anywhere (odd_11 ++ rest_11)) ≡ (60, 0 ∷ 0 ∷ 0 ∷ 0 ∷ 0 ∷ 0 ∷ 0 ∷ 5 ∷ 1 ∷ 0 ∷ 0 ∷ 0 ∷ 0 ∷ 0 ∷ 0 ∷ 1 ∷ 99 ∷ 0 ∷ 0 ∷ 0 ∷ 0 ∷ 0 ∷ 0 ∷ 4 ∷ 97 ∷ 100 ∷ 100 ∷ 0 ∷ 0 ∷ 0 ∷ 0 ∷ 0 ∷ 0 ∷ 0 ∷ 0 ∷ 7 ∷ []) ∷ []
+unfolding seen anywhere odd_11 rest_11 messages_of fault_of rest_of split sight header_of judged_by judged_as message_of row request_id_in value_at each_at boolean_at string_at text_at whole_at number_at part_at octets_at length_at
+joined_at_an_odd_octet = refl
+
+joined_with_an_empty_one : seen (messages_of anywhere (whole_11 ++ empty_11)) ≡ (60, 0 ∷ 0 ∷ 0 ∷ 0 ∷ 0 ∷ 0 ∷ 0 ∷ 5 ∷ 1 ∷ 0 ∷ 0 ∷ 0 ∷ 0 ∷ 0 ∷ 0 ∷ 1 ∷ 99 ∷ 0 ∷ 0 ∷ 0 ∷ 0 ∷ 0 ∷ 0 ∷ 4 ∷ 97 ∷ 100 ∷ 100 ∷ 0 ∷ 0 ∷ 0 ∷ 0 ∷ 0 ∷ 0 ∷ 0 ∷ 0 ∷ 7 ∷ []) ∷ []
+unfolding seen anywhere whole_11 empty_11 messages_of fault_of rest_of split sight header_of judged_by judged_as message_of row request_id_in value_at each_at boolean_at string_at text_at whole_at number_at part_at octets_at length_at
+joined_with_an_empty_one = refl
+
+unaligned_by_default : fault_of limits (odd_11 ++ rest_11) ≡ Some UnalignedFragment
+unfolding limits odd_11 rest_11 fault_of split sight header_of judged_by judged_as message_of row value_at whole_at number_at part_at octets_at length_at
+unaligned_by_default = refl
+
+-- in 1.2 the clause rules
+unaligned_in_1_2 : fault_of anywhere (71 ∷ 73 ∷ 79 ∷ 80 ∷ 1 ∷ 2 ∷ 2 ∷ 1 ∷ 0 ∷ 0 ∷ 0 ∷ 13 ∷ []) ≡ Some UnalignedFragment
+unfolding anywhere fault_of split sight header_of judged_by judged_as message_of row value_at whole_at number_at part_at octets_at length_at
+unaligned_in_1_2 = refl
 
 -- messages that are written: a CancelRequest of id 1, one that is over the limit, and the first again
 small : Sent

@@ -1,6 +1,6 @@
 -- Octets to frames (GIOP 9.4.1): a frame is a header and the octets after it; where a frame ends, and where a header is
 -- refused.
-use Rattle.std.specs.Prelude.{ℕ, ◌+◌, ◌%◌, ◌==◌, ◌&&◌, nat_lt, not, Bool, List, [], ◌∷◌, ◌++◌, length, take, drop, Option, Some, None, Result, Ok, Err, if◌then◌else◌}
+use Rattle.std.specs.Prelude.{ℕ, ◌+◌, ◌%◌, ◌==◌, ◌&&◌, ◌||◌, nat_lt, not, Bool, false, List, [], ◌∷◌, ◌++◌, length, take, drop, Option, Some, None, Result, Ok, Err, if◌then◌else◌}
 use Rattle.giop_core.specs.declared.header.Header.{Header}
 use Rattle.giop_core.specs.declared.header.HeaderFault.{HeaderFault}
 use Rattle.giop_core.specs.declared.header.Version.{Version}
@@ -8,6 +8,8 @@ use Rattle.giop_core.specs.Headers.{header_of}
 use Rattle.giop_core.specs.Rows.{has_id_first}
 use Rattle.giop_frames.specs.declared.fault.StreamFault.{StreamFault}
 use Rattle.giop_frames.specs.declared.fault.StreamFault.TheVariants.{Header as BadHeader, TooLarge, UnalignedFragment}
+use Rattle.giop_frames.specs.declared.limits.Cuts.{Cuts}
+use Rattle.giop_frames.specs.declared.limits.Cuts.TheVariants.{Aligned, Anywhere}
 use Rattle.giop_frames.specs.declared.limits.Limits.{Limits}
 
 -- a header, and the octets after it
@@ -29,15 +31,24 @@ id_length v = if has_id_first v then 4 else 0
 abbrev pub cut_place : Version → ℕ
 cut_place v = (12 + id_length v) % 8
 
--- more frames follow one of another length
-abbrev pub is_unaligned : Header → Bool
-is_unaligned h = h.more && not (frame_size h % 8 == cut_place h.version)
+-- Own rule: limits may let messages of 1.1 be cut after any octet, since frames are joined by their octets.
+abbrev pub has_free_cuts : Cuts → Version → Bool
+has_free_cuts Aligned v = false
+has_free_cuts Anywhere v = not (has_id_first v)
+
+-- whether a message may be cut after a frame of n octets
+abbrev pub may_be_cut : Cuts → Version → ℕ → Bool
+may_be_cut cuts v n = has_free_cuts cuts v || (n % 8 == cut_place v)
+
+-- more frames follow one after which it may not
+abbrev pub is_unaligned : Cuts → Header → Bool
+is_unaligned cuts h = h.more && not (may_be_cut cuts h.version (frame_size h))
 
 -- a header judged by itself, under the limits; the order of these judgements is an own rule
 abbrev pub admitted : Limits → Header → Result Header StreamFault
 admitted limits h =
     if nat_lt limits.message (frame_size h) then Err TooLarge else
-    (if is_unaligned h then Err UnalignedFragment else Ok h)
+    (if is_unaligned limits.cuts h then Err UnalignedFragment else Ok h)
 
 -- the first twelve octets of a frame, judged
 abbrev pub judged_header : Limits → Result Header HeaderFault → Result Header StreamFault

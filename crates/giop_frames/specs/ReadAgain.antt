@@ -1,5 +1,5 @@
 -- What is written is read again, whole or cut.
-use Rattle.std.specs.Prelude.{◌≡◌, ℕ, ◌+◌, ◌%◌, ◌^◌, ◌<◌, ◌≤◌, nat_lt, ◌&&◌, List, [], ◌∷◌, ◌++◌, length, take, drop, Bool, true, false, Option, Some, None, Ok, IsOk, if◌then◌else◌}
+use Rattle.std.specs.Prelude.{◌≡◌, ℕ, ◌+◌, ◌^◌, ◌<◌, ◌≤◌, nat_lt, ◌&&◌, List, [], ◌∷◌, ◌++◌, length, take, drop, Bool, true, false, Option, Some, None, Ok, IsOk, if◌then◌else◌}
 use Rattle.std.specs.List.{AllByRecursion, flat_map}
 use Rattle.cdr_core.specs.declared.order.Order.{Order}
 use Rattle.giop_core.specs.declared.header.Header.{Header}
@@ -17,7 +17,7 @@ use Rattle.giop_frames.specs.declared.partial.Key.TheVariants.{Of11}
 use Rattle.giop_frames.specs.declared.reassembly.Role.TheVariants.{Uncut}
 use Rattle.giop_frames.specs.Cutting.{cut_octets, is_cuttable_in}
 use Rattle.giop_frames.specs.Fragments.{Partial, content_of, id_of, is_cancelled, key_of, partial_of, partials_in, role_of}
-use Rattle.giop_frames.specs.Frames.{Frame, cut_place, id_length}
+use Rattle.giop_frames.specs.Frames.{Frame, id_length, may_be_cut}
 use Rattle.giop_frames.specs.Streams.{Completed, Faults, fault_of, frames_of, messages_of, rest_of}
 
 -- a message under its header
@@ -58,14 +58,14 @@ WrittenIsReadAgain = (limits : Limits) (s body : List ℕ) (version : Version) (
     → Completes limits s (message_octets version kind order body) (written version kind order body)
 
 -- what a message of a version that can be cut is cut into, at the end of a stream without a fault and without a rest, where
--- no message of its request id is partial, none of 1.1, and one more may be, completes that message and no other, if it is
+-- no message of its request id is partial, none of 1.1, one more may be, and it may be cut after n octets, completes that message and no other, if it is
 -- valid within the limit
 abbrev pub CutIsReadAgain : Version → Type 0
 CutIsReadAgain v = (limits : Limits) (s message : List ℕ) (n : ℕ) (h : Header)
     → fault_of limits s ≡ None → rest_of limits s ≡ []
     → partial_of (frames_of limits s) (key_of (under h message)) ≡ None → partial_of (frames_of limits s) Of11 ≡ None
     → partials_in (frames_of limits s) < limits.partials
-    → is_cuttable_in v message ≡ true → header_of (take 12 message) ≡ Ok h → 20 + id_length v ≤ n → n % 8 ≡ cut_place v
+    → is_cuttable_in v message ≡ true → header_of (take 12 message) ≡ Ok h → 20 + id_length v ≤ n → may_be_cut limits.cuts v n ≡ true
     → length message ≤ limits.message → IsOk (content_of h (drop 12 message))
     → Completes limits s (cut_octets n h message) (under h message)
 

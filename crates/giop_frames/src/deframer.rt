@@ -2,11 +2,11 @@
 
 ghost use Rattle.std.specs.Prelude.{◌≡◌, ◌+◌, ◌<◌, ◌≤◌, ◌++◌, length, take, IfOk, []};
 ghost use Rattle.giop_core.specs.Headers.{header_of};
-ghost use Rattle.giop_frames.specs.Frames.{admitted, cut_place, frame_size, id_length, is_unaligned, judged_header, sight};
+ghost use Rattle.giop_frames.specs.Frames.{admitted, cut_place, frame_size, has_free_cuts, id_length, is_unaligned, judged_header, may_be_cut, sight};
 ghost use Rattle.giop_frames.specs.Private.{Needs, IsExact, NeedsAsSeen, sight_at};
 
 use crate::fault::StreamFault;
-use crate::limits::Limits;
+use crate::limits::{Cuts, Limits};
 use giop_core::{Header, Version};
 use std::alloc::AllocError;
 
@@ -51,11 +51,28 @@ fn cut_place(version: Version) -> usize
     (Header::LEN + id_length(version)) % 8
 }
 
-/// Whether more frames follow one after which a message must not be cut.
-fn is_unaligned(header: &Header) -> bool
-    ensures { result ≡ is_unaligned header.now }
+/// Whether messages of a version may be cut after any octet: those of 1.1, where the limits say so.
+fn has_free_cuts(cuts: Cuts, version: Version) -> bool
+    ensures { result ≡ has_free_cuts cuts version }
 {
-    header.more && frame_size(header) % 8 != cut_place(header.version)
+    match cuts {
+        Cuts::Aligned => false,
+        Cuts::Anywhere => !version.has_id_first(),
+    }
+}
+
+/// Whether a message may be cut after a frame of so many octets.
+fn may_be_cut(cuts: Cuts, version: Version, size: usize) -> bool
+    ensures { result ≡ may_be_cut cuts version size }
+{
+    has_free_cuts(cuts, version) || size % 8 == cut_place(version)
+}
+
+/// Whether more frames follow one after which a message must not be cut.
+fn is_unaligned(cuts: Cuts, header: &Header) -> bool
+    ensures { result ≡ is_unaligned cuts header.now }
+{
+    header.more && !may_be_cut(cuts, header.version, frame_size(header))
 }
 
 /// Judges a header by itself, in the order that this project sets.
@@ -65,7 +82,7 @@ fn admit(limits: &Limits, header: Header) -> Result<Header, StreamFault>
     if (limits.message as usize) < frame_size(&header) {
         return Err(StreamFault::TooLarge);
     }
-    if is_unaligned(&header) {
+    if is_unaligned(limits.cuts, &header) {
         return Err(StreamFault::UnalignedFragment);
     }
     Ok(header)

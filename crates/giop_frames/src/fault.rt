@@ -22,7 +22,7 @@ pub enum StreamFault {
     #[error("too large")]
     TooLarge,
     /// More fragments follow a frame whose length is, in 1.2, not divisible by 8 (GIOP 9.4.9), or in 1.1 not 4 modulo
-    /// 8 (own rule).
+    /// 8, where the limits ask for that (own rule).
     #[error("unaligned fragment")]
     UnalignedFragment,
     /// A Fragment of 1.2 whose request id is that of no partial message, or one of 1.1 where no message of 1.1

@@ -20,4 +20,4 @@ mod reassembly;
 pub use assembler::Assembler;
 pub use fault::StreamFault;
 pub use fragmenter::{fragments, fragments_11, is_cuttable, is_cuttable_11};
-pub use limits::Limits;
+pub use limits::{Cuts, Limits};

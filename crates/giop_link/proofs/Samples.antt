@@ -14,6 +14,7 @@ use Rattle.giop_core.specs.Messages.{message_of}
 use Rattle.giop_core.specs.Rows.{row}
 use Rattle.giop_core.specs.Written.{behind_header, message_octets}
 use Rattle.giop_frames.specs.declared.fault.StreamFault.TheVariants.{TooLarge}
+use Rattle.giop_frames.specs.declared.limits.Cuts.TheVariants.{Aligned}
 use Rattle.giop_frames.specs.declared.limits.Limits.{Limits}
 use Rattle.giop_frames.specs.Frames.{sight, split}
 use Rattle.giop_frames.specs.Fragments.{judged_as, judged_by}
@@ -24,7 +25,7 @@ use Rattle.giop_link.specs.Linking.{close_connection}
 use Rattle.giop_link.specs.Outgoing.{Outgoing, course_to, meant, octets_of, octets_of_each}
 
 limits : Limits
-limits = record { message = 4096; partials = 1; message_in_range = (lit≤ tt, lit≤ tt); partials_in_range = (lit≤ tt, lit≤ tt) }
+limits = record { message = 4096; partials = 1; cuts = Aligned; message_in_range = (lit≤ tt, lit≤ tt); partials_in_range = (lit≤ tt, lit≤ tt) }
 
 -- the octets of a body that do not count
 nothing : Rest

@@ -4,7 +4,7 @@ ghost use Rattle.std.specs.Prelude.{◌≡◌, ◌↔◌, ◌<◌, ◌≤◌, �
 ghost use Rattle.giop_frames.specs.Standing.{StandsFor, octets_held};
 
 use giop_core::{Content, Message};
-use giop_frames::{Assembler, Limits, StreamFault};
+use giop_frames::{Assembler, Cuts, Limits, StreamFault};
 use std::alloc::Global;
 use trials::{Miss, Sample, Trial, Wrong, check_printed};
 
@@ -12,6 +12,7 @@ use trials::{Miss, Sample, Trial, Wrong, check_printed};
 const LEAST: Limits = Limits {
     message: 4096,
     partials: 1,
+    cuts: Cuts::Aligned,
 };
 
 /// How many octets an assembler may hold under these limits: a message and a partial one.

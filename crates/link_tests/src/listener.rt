@@ -1,7 +1,7 @@
 //! Where the frame of a fault begins, as a server's end hears it.
 
 use crate::server::{REPLY, REQUEST};
-use giop_frames::Limits;
+use giop_frames::{Cuts, Limits};
 use giop_link::{Listener, Server};
 use std::alloc::{AllocError, Global};
 use std::process::Abort;
@@ -9,6 +9,7 @@ use std::process::Abort;
 const LIMITS: Limits = Limits {
     message: 1_048_576,
     partials: 8,
+    cuts: Cuts::Aligned,
 };
 
 /// A Request, and a message of the wrong direction.

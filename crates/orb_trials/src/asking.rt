@@ -5,7 +5,7 @@ use crate::server_samples::{AGAIN, ANSWER};
 use counter::Counter;
 use ft_log::Retention;
 use ft_orb::{ServeError, Server};
-use giop_frames::Limits;
+use giop_frames::{Cuts, Limits};
 use std::alloc::{AllocError, Global};
 use std::hash::RandomState;
 use trials::{Gives, Miss, Output, Room, Sample, Trial, Wrong};
@@ -20,6 +20,7 @@ const MOST: u32 = 2;
 const LEAST: Limits = Limits {
     message: 4096,
     partials: 1,
+    cuts: Cuts::Aligned,
 };
 
 /// A server of a counter, without connections.

@@ -3,7 +3,7 @@ use Rattle.std.proofs.Math.Facts.{Fits-of_lt}
 use Rattle.std.proofs.lemmas.List.{append-nil}
 use Rattle.std.proofs.lemmas.Result.{err_from_is_err_and}
 use Rattle.std.specs.Int.{w32}
-use Rattle.giop_frames.proofs.Cuts.{appended-by, appended-more, appended-none, can-fragment}
+use Rattle.giop_frames.proofs.Chunks.{appended-by, appended-more, appended-none, can-fragment}
 use Rattle.giop_frames.proofs.fragmenter.put_cut.Goals as goal
 
 pub split_at-requires-2 : goal.split_at-requires-2

@@ -1,7 +1,7 @@
 use Rattle.std.proofs.Common.{[], sym, ◌∙◌}
 use Rattle.std.proofs.lemmas.List.{append-nil}
 use Rattle.std.proofs.lemmas.Result.{err_from_is_err_and}
-use Rattle.giop_frames.proofs.Cuts.{appended-by, appended-more, appended-none, appended-three}
+use Rattle.giop_frames.proofs.Chunks.{appended-by, appended-more, appended-none, appended-three}
 use Rattle.giop_frames.proofs.fragmenter.put_fragment.Goals as goal
 
 pub returns-in_err-extend_from_slice-clause-ok : goal.returns-in_err-extend_from_slice-clause-ok

@@ -2,7 +2,7 @@ use Rattle.std.proofs.Common.{◌++◌, ℕ, List, [], true, sym, ap, ◌∙◌,
 use Rattle.std.proofs.lemmas.Result.{err_from_is_err_and}
 use Rattle.std.specs.List.{flat_map}
 use Rattle.giop_frames.specs.Cutting.{fragment_of, fragments_of, frame_octets, chunks_from}
-use Rattle.giop_frames.proofs.Cuts.{appended-by, appended-more, cut-last, cut-more, kept-more}
+use Rattle.giop_frames.proofs.Chunks.{appended-by, appended-more, cut-last, cut-more, kept-more}
 use Rattle.giop_frames.proofs.fragmenter.put_fragments.Goals as goal
 
 pub loop-left-preserved : goal.loop-left-preserved
