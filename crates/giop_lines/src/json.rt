@@ -292,9 +292,12 @@ fn bodies_in<'m>(has_bodies: bool, content: &Content<'m>) -> Bodies<'m> {
 }
 
 /// Appends the fields that stand behind all others, and ends the object.
-fn put_last(frames: u64, values: Option<&str>, page: &mut Page) {
+fn put_last(frames: u64, note: Option<&str>, values: Option<&str>, page: &mut Page) {
     if frames > 1 {
         page.field("frames", &Value::Number(frames));
+    }
+    if let Some(note) = note {
+        page.field("note", &Value::Word(note));
     }
     if let Some(values) = values {
         page.name("values");
@@ -313,7 +316,7 @@ pub(crate) fn put_message(
 ) {
     put_head(&shown, page);
     put_says(&shown, caught.is_some(), objects, page);
-    let (frames, values) = (shown.frames, shown.values);
+    let (frames, note, values) = (shown.frames, shown.note(), shown.values);
     let repeats = shown.seen.tie.repeats;
     let field = ft_of(&shown.seen.message.content);
     let bodies = bodies_in(printer.has_bodies, &shown.seen.message.content);
@@ -323,5 +326,5 @@ pub(crate) fn put_message(
     if let Some(caught) = caught {
         put_caught(caught, bodies, objects, page);
     }
-    put_last(frames, values, page);
+    put_last(frames, note, values, page);
 }

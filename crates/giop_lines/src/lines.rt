@@ -70,7 +70,7 @@ fn put_digits(body: &Body, page: &mut Page) {
     page.note(came);
 }
 
-/// Appends how many octets a body has, and its octets where they are asked for, at the end of a line.
+/// Appends how many octets a body has, and its octets where they are asked for.
 fn put_octets(detail: Detail, body: &Body, page: &mut Page) {
     if let Detail::Octets = detail {
         put_digits(body, page);
@@ -83,7 +83,6 @@ fn put_octets(detail: Detail, body: &Body, page: &mut Page) {
             page.octets(body.octets);
         }
     }
-    page.put("\n");
 }
 
 /// Appends the line of a service context, with all its octets.
@@ -179,7 +178,6 @@ fn put_locate_request(
 ) {
     page.number("LocateRequest id ", u64::from(request.request_id), " ");
     put_object(detail, &request.target, objects, page);
-    page.put("\n");
 }
 
 /// Appends which request a message answers or cancels.
@@ -264,10 +262,9 @@ fn put_locate_reply(
 fn put_cancel(id: u32, earlier: Option<Earlier>, page: &mut Page) {
     page.number("CancelRequest id ", u64::from(id), "");
     put_earlier(earlier, page);
-    page.put("\n");
 }
 
-/// Appends the first line of what a message says.
+/// Appends what the first line of a message says of it.
 fn put_content(
     detail: Detail,
     content: &Content,
@@ -282,9 +279,9 @@ fn put_content(
         Content::Reply(reply) => put_reply(detail, reply, outcome, answering, page),
         Content::LocateReply(reply) => put_locate_reply(detail, reply, outcome, answering, page),
         Content::Cancel(cancel) => put_cancel(cancel.request_id, answering.earlier, page),
-        Content::Close => page.put("CloseConnection\n"),
-        Content::Error => page.put("MessageError\n"),
-        Content::Fragment(_) => page.put("Fragment\n"),
+        Content::Close => page.put("CloseConnection"),
+        Content::Error => page.put("MessageError"),
+        Content::Fragment(_) => page.put("Fragment"),
     }
 }
 
@@ -335,6 +332,10 @@ fn put_first(
         objects,
         page,
     );
+    if let Some(note) = shown.note() {
+        page.put_all(&[", ", note]);
+    }
+    page.put("\n");
 }
 
 /// Appends the line of what a table of types tells of a message, if it does.

@@ -1,5 +1,7 @@
 //! A message with all that its line says besides what it says itself.
 
+ghost use Rattle.std.specs.Prelude.{◌↔◌, IsSome, IsTrue};
+
 use crate::lines::Earlier;
 use giop_tap::Seen;
 
@@ -11,13 +13,28 @@ pub struct Shown<'t> {
     pub end: u64,
     /// In how many frames it came.
     pub frames: u64,
+    /// Whether it was cut where GIOP 9.4.9 leaves open how the octets behind are aligned.
+    pub is_cut_otherwise: bool,
     /// The operation of the request that it answers or cancels; none where there is none, or it is a LocateRequest.
     pub operation: Option<&'t [u8]>,
     /// What a table of types tells of its body, in the form of the lines; none where it tells nothing.
     pub values: Option<&'t str>,
 }
 
+/// What is noted of a message that was cut so: what is aligned behind a cut may lie elsewhere than it is read.
+const CUT_OTHERWISE: &str = "cut otherwise than 1.1 lets align";
+
 impl<'t> Shown<'t> {
+    /// What is noted of how it came.
+    pub(crate) fn note(&self) -> Option<&'static str>
+        ensures { IsSome result ↔ IsTrue self.now.is_cut_otherwise }
+    {
+        match self.is_cut_otherwise {
+            true => Some(CUT_OTHERWISE),
+            false => None,
+        }
+    }
+
     /// The request that it answers or cancels.
     pub(crate) fn earlier(&self) -> Option<Earlier<'t>> {
         let number = self.seen.tie.request?;

@@ -60,11 +60,14 @@ const OF_ENGINE: &[&str] = &["parked", "joined", "asks"];
 /// When lines may have colours.
 const WHENS: &[&str] = &["auto", "always", "never"];
 
+/// Where messages of 1.1 may be cut that are joined.
+const PLACES: &[&str] = &["aligned", "anywhere"];
+
 /// The greatest number of 32 bits.
 const MOST: u64 = u32::MAX as u64;
 
 /// All options, those of a subcommand in the order in which its help has them.
-pub(crate) static ROWS: [Row; 32] = [
+pub(crate) static ROWS: [Row; 33] = [
     Row {
         of: STREAMS,
         name: "FILE",
@@ -82,6 +85,12 @@ pub(crate) static ROWS: [Row; 32] = [
         name: "resume",
         value: Value::Flag,
         help: "After a fault goes on at the next header of a plausible message",
+    },
+    Row {
+        of: TRACE,
+        name: "cuts",
+        value: Value::Choice("WHERE", PLACES),
+        help: "Where messages of GIOP 1.1 may be cut to be joined: aligned is behind a frame whose octets leave 4 modulo 8 [default: aligned]",
     },
     Row {
         of: TRACE,

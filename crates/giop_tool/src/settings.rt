@@ -9,6 +9,7 @@ use crate::options::with_options;
 use crate::tracing::{Colouring, Tracing};
 use clap::error::ErrorKind;
 use clap::{ArgMatches, Command};
+use giop_frames::Cuts;
 use giop_lines::Format;
 use giop_run::{
     CAPACITY, EnginePlay, Form, Input, IorShow, JOINED, LIMIT, Numbers, PARKED, PARTIALS, START,
@@ -210,6 +211,14 @@ fn colouring_of(words: &ArgMatches) -> Colouring {
     }
 }
 
+/// Where the words of `giop trace` let messages of 1.1 be cut.
+fn cuts_of(words: &ArgMatches) -> Cuts {
+    match words.get_str("cuts") {
+        Some("anywhere") => Cuts::Anywhere,
+        _ => Cuts::Aligned,
+    }
+}
+
 /// The trace that the words of `giop trace` ask for.
 fn tracing_of<'a>(words: &ArgMatches<'a>) -> Tracing<'a> {
     let input = input_of(words);
@@ -220,6 +229,7 @@ fn tracing_of<'a>(words: &ArgMatches<'a>) -> Tracing<'a> {
         options: Options {
             is_raw: input.form == Form::Raw,
             resumes: words.get_flag("resume"),
+            cuts: cuts_of(words),
             format: if words.get_flag("json") {
                 Format::Json
             } else {

@@ -1,6 +1,10 @@
 //! In how many frames the messages of a side come: where more fragments follow, Fragments go on (GIOP 9.4.1, GIOP 9.4.9).
 
-use crate::headers::header_in;
+ghost use Rattle.std.specs.Prelude.{◌≡◌, ◌∷◌, [], List};
+ghost use Rattle.giop_core.specs.declared.header.Header.{Header};
+ghost use Rattle.giop_trace.specs.Joining.{is_cut_otherwise};
+
+use crate::headers::{header_in, is_unaligned};
 use giop_core::{Header, MessageKind, Version};
 use std::alloc::{AllocError, Global};
 use std::collections::BTreeMap;
@@ -8,18 +12,49 @@ use std::collections::BTreeMap;
 /// How many octets a request id has, with which the body of each frame of a message of 1.2 begins.
 const ID: usize = 4;
 
+/// How a message came, as far as it has.
+#[derive(Clone, Copy)]
+pub(crate) struct Came {
+    /// In how many frames.
+    pub frames: u64,
+    /// Whether it was cut where aligned cuts would not be.
+    pub is_cut_otherwise: bool,
+}
+
+impl Came {
+    /// None of it.
+    fn none() -> Came
+        ensures { result.is_cut_otherwise ≡ is_cut_otherwise [] }
+    {
+        Came {
+            frames: 0,
+            is_cut_otherwise: false,
+        }
+    }
+
+    /// With one more frame of this header.
+    fn with(self, header: &Header) -> Came
+        ensures { (earlier : List Header) → self.is_cut_otherwise ≡ is_cut_otherwise earlier → result.is_cut_otherwise ≡ is_cut_otherwise (header.now ∷ earlier) }
+    {
+        Came {
+            frames: self.frames.saturating_add(1),
+            is_cut_otherwise: is_unaligned(header) || self.is_cut_otherwise,
+        }
+    }
+}
+
 /// The frames of a side.
 #[derive(Drop)]
 pub(crate) struct Frames {
-    /// How many have come of each message that is not whole, by its request id as it stands there; in 1.1, where no other is
+    /// What has come of each message that is not whole, by its request id as it stands there; in 1.1, where no other is
     /// partial beside it, by nothing.
-    partial: BTreeMap<Vec<u8>, u64>,
+    partial: BTreeMap<Vec<u8>, Came>,
     /// The header of the frame that is read, and as much of a request id as has come of it.
     header: Option<Header>,
     id: Vec<u8>,
     alloc: Global,
-    /// How many the last message has that is whole.
-    last: u64,
+    /// How the last message came that is whole.
+    last: Came,
 }
 
 impl Frames {
@@ -30,12 +65,12 @@ impl Frames {
             header: None,
             id: Vec::new(alloc),
             alloc,
-            last: 1,
+            last: Came::none(),
         }
     }
 
-    /// How many the last message has that is whole.
-    pub fn last(&self) -> u64 {
+    /// How the last message came that is whole.
+    pub fn last(&self) -> Came {
         self.last
     }
 
@@ -68,15 +103,15 @@ impl Frames {
             return Ok(());
         };
         let earlier = match header.kind {
-            MessageKind::Fragment => self.partial.remove(&self.id).unwrap_or(0),
-            _ => 0,
+            MessageKind::Fragment => self.partial.remove(&self.id).unwrap_or(Came::none()),
+            _ => Came::none(),
         };
-        let count = earlier.saturating_add(1);
+        let came = earlier.with(&header);
         if header.more {
             self.partial
-                .insert(Vec::from_slice(self.alloc, &self.id)?, count)?;
+                .insert(Vec::from_slice(self.alloc, &self.id)?, came)?;
         } else {
-            self.last = count;
+            self.last = came;
         }
         Ok(())
     }

@@ -1,5 +1,9 @@
 //! The headers of frames, as far as reading goes on by them.
 
+ghost use Rattle.std.specs.Prelude.{◌≡◌};
+ghost use Rattle.giop_frames.specs.declared.limits.Cuts.TheVariants.{Aligned};
+ghost use Rattle.giop_frames.specs.Frames.{cut_place, is_unaligned};
+
 use giop_core::{Header, MessageKind, Version};
 
 /// How many octets a header has.
@@ -33,6 +37,24 @@ pub(crate) fn is_fragment(octets: &[u8]) -> bool {
             ..
         })
     )
+}
+
+/// What the octets of a frame leave, divided by 8, where more frames follow and the cut is aligned (GIOP 9.4.9; in 1.1 own
+/// rule).
+fn cut_place(version: Version) -> u64
+    ensures { result ≡ cut_place version }
+{
+    match version {
+        Version::V10 | Version::V11 => 4,
+        Version::V12 => 0,
+    }
+}
+
+/// Whether more frames follow one where an aligned cut would not let them.
+pub(crate) fn is_unaligned(header: &Header) -> bool
+    ensures { result ≡ is_unaligned Aligned header.now }
+{
+    header.more && (HEADER + u64::from(header.size)) % 8 != cut_place(header.version)
 }
 
 /// Whether a frame with this header begins a message of 1.1 that is cut. Where one is cut otherwise than is read here,

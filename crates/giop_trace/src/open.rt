@@ -1,6 +1,7 @@
 //! A connection that is traced.
 
 use crate::direction::{Direction, Reading};
+use crate::frames::Came;
 use crate::steps::Step;
 use crate::stop::Stop;
 use giop_core::Content;
@@ -114,8 +115,8 @@ impl Open {
         }
     }
 
-    /// In how many frames the last message of a side came.
-    pub fn frames(&self, sender: Sender) -> u64 {
+    /// How the last message of a side came.
+    pub fn came(&self, sender: Sender) -> Came {
         match sender {
             Sender::Opener => self.opener.frames.last(),
             Sender::Acceptor => self.acceptor.frames.last(),

@@ -1,5 +1,7 @@
 //! What `giop trace` does with its input.
 
+ghost use Rattle.std.specs.Prelude.{◌≡◌};
+
 use crate::choice::{Choice, Chooser};
 use crate::direction::Reading;
 use crate::session::Session;
@@ -7,7 +9,7 @@ use crate::sink::{Sink, Source};
 use crate::stop::{Failure, Stop};
 use crate::telling::Teller;
 use crate::text::Text;
-use giop_frames::Limits;
+use giop_frames::{Cuts, Limits};
 use giop_lines::{Endpoints, Format, Printer};
 use giop_text::is_capture;
 use giop_types::Table;
@@ -21,6 +23,8 @@ pub struct Options<'a> {
     pub is_raw: bool,
     /// After a fault reading goes on at the next header of a plausible message.
     pub resumes: bool,
+    /// Where messages of 1.1 may be cut that are read.
+    pub cuts: Cuts,
     /// The form of the lines.
     pub format: Format,
     /// Whether bodies are printed where the input tells packets; else they always are.
@@ -186,6 +190,18 @@ fn teller_of(alloc: Global, options: &Options, types: Table) -> Result<Teller, A
     Ok(Teller::new(alloc, printer, chooser, types, options.is_summary))
 }
 
+/// How octets are read: under the default limits, with the cuts that are asked for.
+fn reading_of(options: &Options) -> Reading
+    ensures limits { (result.limits.message ≡ 1048576) × (result.limits.partials ≡ 8) }
+    ensures cuts { result.limits.cuts ≡ options.now.cuts }
+    ensures resumes { result.resumes ≡ options.now.resumes }
+{
+    Reading {
+        limits: Limits::default().with_cuts(options.cuts),
+        resumes: options.resumes,
+    }
+}
+
 /// Traces the connections in an input under the default limits, as it comes, and prints a line for each message, what
 /// the types tell of its body, and at the end what was counted. Returns whether each direction ends after a message,
 /// with nothing left over.
@@ -203,10 +219,6 @@ pub fn trace<R: Read, W: Write>(
         Ok(writer) => Sink::new(writer),
         Err(_) => return Err(Failure::Stop(Stop::Memory)),
     };
-    let reading = Reading {
-        limits: Limits::default(),
-        resumes: options.resumes,
-    };
     let mut tracing = Run {
         alloc,
         is_raw: options.is_raw,
@@ -215,7 +227,7 @@ pub fn trace<R: Read, W: Write>(
             is_ended: false,
             error: None,
         },
-        session: Session::new(alloc, reading, u64::from(options.keys), teller),
+        session: Session::new(alloc, reading_of(options), u64::from(options.keys), teller),
     };
     let came = tracing.run(&mut out);
     let Err(stop) = came else {

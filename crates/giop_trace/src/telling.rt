@@ -329,9 +329,11 @@ impl Teller {
         values: Option<&str>,
     ) -> Result<String, AllocError> {
         let operation = self.asked.operation(seen.tie.request.unwrap_or(0));
+        let came = open.came(seen.sender);
         let shown = Shown {
             end: open.end(seen.sender),
-            frames: open.frames(seen.sender),
+            frames: came.frames,
+            is_cut_otherwise: came.is_cut_otherwise,
             operation,
             values,
             seen,
