@@ -1,6 +1,6 @@
 //! The references that locations stand for.
 
-ghost use Rattle.std.specs.Prelude.{◌≡◌, ◌≢◌, [], map, Any, IfErr, IfOk};
+ghost use Rattle.std.specs.Prelude.{◌≡◌, ◌≢◌, [], map, All, Any, IfErr, IfOk};
 ghost use Rattle.cdr_core.specs.Writing.{IsWritable};
 ghost use Rattle.ior_core.specs.Keys.{tag_and_octets_of};
 ghost use Rattle.corbaloc.specs.Reference.{body, profile};
@@ -41,6 +41,7 @@ fn profile_of(alloc: Global, address: &Address, key: &[u8]) -> Result<Profile, L
 pub fn reference_of(alloc: Global, location: &Location) -> Result<Ior, LocationError>
     ensures empty { IfOk result (λ ior. ior.type_id.items ≡ []) }
     ensures profiles { IfOk result (λ ior. map tag_and_octets_of ior.profiles.items ≡ map (profile location.now.key.items) location.now.addresses.items) }
+    ensures refused { IfErr result (λ e. e ≢ LocationError.Memory → All (λ one. IsWritable (body location.now.key.items one)) location.now.addresses.items → ⊥) }
 {
     let mut profiles = Vec::new(alloc);
     for address in &location.addresses {
