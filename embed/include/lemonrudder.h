@@ -321,16 +321,17 @@ LR_API int64_t lr_server_open(lr_server *server, lr_catalogue *catalogue, uint64
 
 /* What lr_server_set sets, and what it is where nothing is set. */
 enum {
-  LR_SET_MESSAGE = 1,   /* octets of a message at most, 4096 to 16777216: 1048576 */
-  LR_SET_PARTIALS = 2,  /* messages of a connection that may be partial at a time, 1 to 16: 4 */
-  LR_SET_CAPACITY = 3,  /* outcomes that are kept for repeats at most: 65536 */
-  LR_SET_SHARE = 4,     /* .. of each client: 4294967295, so all of the capacity */
-  LR_SET_PARKED = 5,    /* requests that may be parked at a time: 1024 */
-  LR_SET_PARKED_OF = 6, /* .. of those that came on one connection: 64 */
-  LR_SET_JOINED = 7,    /* who may wait for the outcome of a parked one, beside the last who came: 8 */
-  LR_SET_DUE = 8,       /* octets due on a connection, 1 or more, from which on it is fed no more: 1048576 */
-  LR_SET_CLIENT_ID = 9, /* octets of a client's id at most; who has a longer one is answered BAD_CONTEXT: 256 */
-  LR_SET_ASK_FIRST = 10 /* 1 where you are asked before a request with FT_REQUEST is refused: 0 */
+  LR_SET_MESSAGE = 1,    /* octets of a message at most, 4096 to 16777216: 1048576 */
+  LR_SET_PARTIALS = 2,   /* messages of a connection that may be partial at a time, 1 to 16: 4 */
+  LR_SET_CAPACITY = 3,   /* outcomes that are kept for repeats at most: 65536 */
+  LR_SET_SHARE = 4,      /* .. of each client: 4294967295, so all of the capacity */
+  LR_SET_PARKED = 5,     /* requests that may be parked at a time: 1024 */
+  LR_SET_PARKED_OF = 6,  /* .. of those that came on one connection: 64 */
+  LR_SET_JOINED = 7,     /* who may wait for the outcome of a parked one, beside the last who came: 8 */
+  LR_SET_DUE = 8,        /* octets due on a connection, 1 or more, from which on it is fed no more: 1048576 */
+  LR_SET_CLIENT_ID = 9,  /* octets of a client's id at most; who has a longer one is answered BAD_CONTEXT: 256 */
+  LR_SET_ASK_FIRST = 10, /* 1 where you are asked before a request with FT_REQUEST is refused: 0 */
+  LR_SET_CUTS = 11       /* where a message of 1.1 may be cut, one of LR_CUTS_..: 0 */
 };
 
 /* Sets a limit of a server of which no connection was opened: a number of the range above; where none is given, of 32
@@ -573,7 +574,8 @@ enum {
   LR_CLIENT_KEEP_FORWARD = 2,   /* 1: a forward leaves its call pending: lr_client_forwarded; 0 */
   LR_CLIENT_VERSION = 3,        /* the version of its messages, 0 to 2: 2 */
   LR_CLIENT_MESSAGE = 4,        /* octets of a message that comes at most, 4096 to 16777216: 1048576 */
-  LR_CLIENT_PARTIALS = 5        /* messages that may be partial at a time, 1 to 16: 4 */
+  LR_CLIENT_PARTIALS = 5,       /* messages that may be partial at a time, 1 to 16: 4 */
+  LR_CLIENT_CUTS = 6            /* where a message of 1.1 may be cut, one of LR_CUTS_..: 0 */
 };
 
 /* Sets one of these. The first two say of the replies that come from then on whether such a one leaves its call
@@ -706,6 +708,17 @@ LR_API int64_t lr_client_output(lr_client *client, void *room, size_t size);
  * 4096 to 16777216; at most so many may be partial at a time, 1 to 16. LR_E_OPEN, LR_E_RANGE, LR_E_MEMORY. */
 LR_API int64_t lr_assembler_open(lr_assembler *assembler, uint32_t message_limit, uint32_t partials);
 
+/* Where a message of GIOP 1.1 may be cut. CORBA 3.3 Part 2, 9.4.9 leaves open whether what is aligned in a Fragment of
+ * 1.1 is so from its own beginning or the message's. Frames are joined by their octets. */
+enum {
+  LR_CUTS_ALIGNED = 0, /* where both are the same: so that the octets of each frame but the last leave 4 modulo 8 */
+  LR_CUTS_ANYWHERE = 1 /* anywhere: what is aligned across a cut lies as its sender counted, which it doesn't say */
+};
+
+/* .. whose messages of 1.1 may be cut so; by lr_assembler_open that is LR_CUTS_ALIGNED. The same errors. */
+LR_API int64_t lr_assembler_open_cuts(lr_assembler *assembler, uint32_t message_limit, uint32_t partials,
+                                      uint32_t cuts);
+
 /* Takes octets up to and with the end of the next message, or all of them, and answers how many. Fragments are
  * joined. LR_E_EMPTY, LR_E_STREAM: the stream is at its end, and lr_assembler_fault says why. */
 LR_API int64_t lr_assembler_feed(lr_assembler *assembler, const void *octets, size_t size);
@@ -816,7 +829,9 @@ LR_API int64_t lr_write_ft(void *room, size_t size, uint32_t order, const void *
 
 /* ---- references ---- */
 
-/* Reads a stringified reference, "IOR:" and hexadecimal digits. LR_E_OPEN, LR_E_REFERENCE, LR_E_MEMORY. */
+/* Reads a stringified reference, "IOR:" and hexadecimal digits; or a URL, as "corbaloc::host:2809/key" (CORBA 3.3 Part 2,
+ * 7.6.10): a reference without a type to the addresses of IIOP that it names, 64 at most. LR_E_OPEN, LR_E_REFERENCE (it
+ * is neither), LR_E_MEMORY. */
 LR_API int64_t lr_ior_parse(lr_ior *ior, const void *text, size_t size);
 
 /* A reference of a type to an object at an address of IIOP 1.minor. LR_E_OPEN, LR_E_RANGE (minor is over 2),

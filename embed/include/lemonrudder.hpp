@@ -331,6 +331,12 @@ using Count = Result<std::size_t>;
 
 namespace detail {
 
+/* The number of what a setting is set to, where it is. */
+template <class Enum>
+std::optional<std::uint64_t> setting(std::optional<Enum> value) noexcept {
+  return value ? std::optional<std::uint64_t>(static_cast<std::uint32_t>(*value)) : std::nullopt;
+}
+
 inline Done done(std::int64_t answer) noexcept { return answer < 0 ? Done(Error(answer)) : Done(); }
 
 inline Result<bool> truth(std::int64_t answer) noexcept {
@@ -497,6 +503,9 @@ enum class Fault : std::uint32_t {
   memory = LR_FAULT_MEMORY
 };
 
+/* Where a message of GIOP 1.1 may be cut. */
+enum class Cuts : std::uint32_t { aligned = LR_CUTS_ALIGNED, anywhere = LR_CUTS_ANYWHERE };
+
 /* Why a connection of a server has ended; `open` where it goes on. */
 enum class Why : std::uint32_t {
   open = LR_WHY_OPEN,
@@ -591,10 +600,11 @@ struct Message : lr_message {
   LocateStatus locate_status() const noexcept { return LocateStatus{status}; }
 };
 
-/* How long a message may be, and how many may be partial at a time. */
+/* How long a message may be, how many may be partial at a time, and where one of 1.1 may be cut. */
 struct Limits {
   std::uint32_t message = 1 << 20;
   std::uint32_t partials = 4;
+  Cuts cuts = Cuts::aligned;
 };
 
 /* The moment of a time of the system's clock. */
@@ -726,6 +736,7 @@ struct Settings {
   std::optional<std::uint64_t> due = {};
   std::optional<std::uint64_t> client_id = {};
   std::optional<bool> ask_first = {};
+  std::optional<Cuts> cuts = {};
 };
 
 /* Two random numbers, which no client can guess. */
@@ -960,6 +971,7 @@ class Server : public Slot<lr_server> {
         {LR_SET_PARKED, settings.parked},       {LR_SET_PARKED_OF, settings.parked_of_one},
         {LR_SET_JOINED, settings.joined},       {LR_SET_DUE, settings.due},
         {LR_SET_CLIENT_ID, settings.client_id}, {LR_SET_ASK_FIRST, settings.ask_first},
+        {LR_SET_CUTS, detail::setting(settings.cuts)},
     };
     std::int64_t answer = LR_OK;
     for (const auto& [what, value] : all)
@@ -997,6 +1009,7 @@ struct ClientSettings {
   std::optional<std::uint32_t> version = {};
   std::optional<std::uint32_t> message = {};
   std::optional<std::uint32_t> partials = {};
+  std::optional<Cuts> cuts = {};
 };
 
 /* A client that sends its calls again. */
@@ -1101,7 +1114,7 @@ class Client : public Slot<lr_client> {
     const std::pair<std::uint32_t, std::optional<std::uint64_t>> all[] = {
         {LR_CLIENT_KEEP_TRANSIENT, settings.keep_transient}, {LR_CLIENT_KEEP_FORWARD, settings.keep_forward},
         {LR_CLIENT_VERSION, settings.version},               {LR_CLIENT_MESSAGE, settings.message},
-        {LR_CLIENT_PARTIALS, settings.partials},
+        {LR_CLIENT_PARTIALS, settings.partials},             {LR_CLIENT_CUTS, detail::setting(settings.cuts)},
     };
     std::int64_t answer = LR_OK;
     for (const auto& [what, value] : all)
@@ -1117,7 +1130,8 @@ class Assembler : public Slot<lr_assembler> {
  public:
   static Result<Assembler> open(Limits limits) noexcept {
     Assembler made;
-    return opened(lr_assembler_open(made.slot(), limits.message, limits.partials), made);
+    const auto cuts = static_cast<std::uint32_t>(limits.cuts);
+    return opened(lr_assembler_open_cuts(made.slot(), limits.message, limits.partials, cuts), made);
   }
 
   /* Takes octets up to the end of the next message, and answers how many. */

@@ -545,23 +545,52 @@ static int64_t get_values(const lr_idl_types *types, const struct reader *in, vo
 
 /* ---- references ---- */
 
-static unsigned hex_digit(char digit) {
-  return (unsigned)(digit <= '9' ? digit - '0' : (digit | 32) - 'a' + 10);
+/* Copies what a function gives of a reference, with a NUL behind it; NULL where there is no memory. */
+static char *part_of_ior(lr_ior *ior, const uint32_t *index, size_t size) {
+  char *made = malloc(size + 1);
+  if (made == NULL) return NULL;
+  int64_t done = index == NULL ? lr_ior_type_id(ior, made, size) : lr_ior_part(ior, *index, LR_IOR_DATA, made, size);
+  made[size] = 0;
+  if (done == (int64_t)size) return made;
+  free(made);
+  return NULL;
+}
+
+/* Takes the profile of an index. */
+static int64_t take_profile(lr_ior *ior, uint32_t index, lr_idl_profile *profile) {
+  lr_profile said;
+  int64_t done = lr_ior_profile(ior, index, &said, sizeof said);
+  if (done < 0) return done;
+  profile->tag = said.tag;
+  profile->data._buffer = (uint8_t *)part_of_ior(ior, &index, (size_t)said.data_size);
+  profile->data._length = profile->data._buffer == NULL ? 0 : (uint32_t)said.data_size;
+  return profile->data._buffer == NULL ? LR_E_MEMORY : LR_OK;
+}
+
+/* Takes what a reference has into one that is all zero. At an error that owns what was taken. */
+static int64_t take_ior(lr_ior *ior, lr_idl_reference *reference) {
+  const uint32_t count = (uint32_t)lr_ior_profiles(ior);
+  reference->type_id = part_of_ior(ior, NULL, (size_t)lr_ior_type_id(ior, NULL, 0));
+  if (reference->type_id == NULL) return LR_E_MEMORY;
+  if (count == 0) return LR_OK;
+  reference->profiles._buffer = malloc(count * sizeof *reference->profiles._buffer);
+  if (reference->profiles._buffer == NULL) return LR_E_MEMORY;
+  memset(reference->profiles._buffer, 0, count * sizeof *reference->profiles._buffer);
+  reference->profiles._length = count;
+  int64_t done = LR_OK;
+  for (uint32_t index = 0; done == LR_OK && index < count; index++)
+    done = take_profile(ior, index, &reference->profiles._buffer[index]);
+  return done;
 }
 
 int64_t lr_idl_reference__parse(lr_idl_reference *reference, const char *text) {
   lr_ior ior = LR_INIT;
   int64_t done = lr_ior_parse(&ior, text, strlen(text));
-  lr_ior_close(&ior);
   if (done < 0) return done;
-  const size_t size = strlen(text += sizeof "IOR:" - 1) / 2;
-  unsigned char *octets = malloc(size);
-  if (octets == NULL) return LR_E_MEMORY;
-  for (size_t index = 0; index < size; index++)
-    octets[index] = (unsigned char)(hex_digit(text[2 * index]) << 4 | hex_digit(text[2 * index + 1]));
-  lr_place place = {.next = 1, .order = octets[0]};
-  done = lr_idl_get(&lr_idl_reference__type, octets, size, &place, reference);
-  free(octets);
+  memset(reference, 0, sizeof *reference);
+  done = take_ior(&ior, reference);
+  lr_ior_close(&ior);
+  if (done < 0) lr_idl_reference__free(reference);
   return done;
 }
 

@@ -142,7 +142,7 @@ static inline void lr_idl_reference__free(lr_idl_reference *reference) {
   lr_idl_free(&lr_idl_reference__type, reference);
 }
 
-/* That of a stringified reference, and the other way: a text of yours to free. LR_E_REFERENCE, LR_E_MEMORY. */
+/* That of a stringified reference or of a URL corbaloc:, and the other way: a text of yours to free. LR_E_REFERENCE, LR_E_MEMORY. */
 int64_t lr_idl_reference__parse(lr_idl_reference *reference, const char *text);
 int64_t lr_idl_reference__print(const lr_idl_reference *reference, char **text);
 

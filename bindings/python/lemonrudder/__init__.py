@@ -64,14 +64,14 @@ from ._servants import Operation, RawReply
 from ._server import Server
 from ._sqlite import SqliteStore
 from ._store import Kept, Store, StoreError
-from ._table import (VERSION, Completed, ContextId, Counted, Error, Fault, LocateStatus, MessageType, Order,
+from ._table import (VERSION, Completed, ContextId, Counted, Cuts, Error, Fault, LocateStatus, MessageType, Order,
                      ReplyStatus, SystemName, Why, Wish)
 
 __version__ = ".".join(map(str, VERSION))
 
 __all__ = [
     "BIG", "FT_REQUEST", "LIMIT", "LITTLE", "PARTIALS", "REFERENCE", "VERSION", "Address", "Asked", "Assembler", "Body",
-    "Catalogue", "Client", "Completed", "ContextId", "Counted", "Current", "Engine", "Error", "Expired", "Fault",
+    "Catalogue", "Client", "Completed", "ContextId", "Counted", "Current", "Cuts", "Engine", "Error", "Expired", "Fault",
     "FormatError", "ForwardRequest", "FtRequest", "GiveUp", "Ior", "Kept", "LemonrudderError", "LocateStatus",
     "MemoryStore", "Message", "MessageType", "NeedsAddressing", "Operation", "Order", "Outcome", "PostgresStore",
     "Profile", "RawReply", "Reader",

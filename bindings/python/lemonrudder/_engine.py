@@ -12,7 +12,7 @@ from ._library import (LIMIT, PARTIALS, Held, LemonrudderError, Octets, Text, ad
                        library, named, now, octets_of, structs)
 from ._messages import Body, FtRequest, listed
 from ._outcomes import Outcome, system_number, system_outcome
-from ._table import Completed, Counted, Error, Order, Part, ReplyStatus, ServerSetting, SystemName, Why, Wish
+from ._table import Completed, Counted, Cuts, Error, Order, Part, ReplyStatus, ServerSetting, SystemName, Why, Wish
 
 CONTEXTS = 64
 """How many service contexts of a request are read where nothing else is said."""
@@ -59,7 +59,7 @@ class Engine(Held):
     each call that answers takes; without a ticket it is about the request that waits. What became due by that
     `next_due` says. A repeat of a parked request joins those who wait for its outcome.
 
-    catalogue: the objects; it is empty afterwards. limit and partials: as of Assembler, for each connection. capacity:
+    catalogue: the objects; it is empty afterwards. limit, partials and cuts: as of Assembler, for each connection. capacity:
     how many outcomes are kept for repeats, at most `share` of each client, all of them without one. max_parked: how
     many requests are parked at a time; max_parked_of: of those that came on one connection; max_joined: how many wait
     for the outcome of one, beside the last who came. max_due: of how many octets due on a connection on it is fed no
@@ -72,7 +72,7 @@ class Engine(Held):
     def __init__(self, catalogue: Catalogue, limit: int = LIMIT, partials: int = PARTIALS, capacity: int = 65536,
                  share: Optional[int] = None, *, max_parked: int = 1024, max_parked_of: int = 64, max_joined: int = 8,
                  max_due: int = 1048576, max_client_id: int = 256, ask_first: bool = False,
-                 max_elements: Optional[int] = None) -> None:
+                 max_elements: Optional[int] = None, cuts: int = Cuts.ALIGNED) -> None:
         super().__init__()
         self._max_elements = max_elements
         self._room = ctypes.create_string_buffer(65536)
@@ -85,7 +85,7 @@ class Engine(Held):
             ServerSetting.MESSAGE: limit, ServerSetting.PARTIALS: partials, ServerSetting.CAPACITY: capacity,
             ServerSetting.SHARE: share, ServerSetting.PARKED: max_parked, ServerSetting.PARKED_OF: max_parked_of,
             ServerSetting.JOINED: max_joined, ServerSetting.DUE: max_due, ServerSetting.CLIENT_ID: max_client_id,
-            ServerSetting.ASK_FIRST: ask_first,
+            ServerSetting.ASK_FIRST: ask_first, ServerSetting.CUTS: cuts,
         }
         try:
             for what, value in limits.items():

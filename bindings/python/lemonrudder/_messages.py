@@ -8,7 +8,7 @@ from typing import Any, Dict, Iterator, List, Optional, Sequence, Tuple, Union
 from ._cdr import BIG, Reader, pack, unpack
 from ._library import (LIMIT, PARTIALS, Held, LemonrudderError, Octets, Text, address_of, call, checked, copied, lent,
                        library, named, octets_of, structs, written)
-from ._table import ContextId, Error, Fault, LocateStatus, MessageType, Order, Part, ReplyStatus, Wish
+from ._table import ContextId, Cuts, Error, Fault, LocateStatus, MessageType, Order, Part, ReplyStatus, Wish
 
 FT_REQUEST = ContextId.FT_REQUEST
 """The id of the service context of a request that may be sent again (Fault Tolerant CORBA 23.2.7)."""
@@ -84,13 +84,14 @@ class Assembler(Held):
     """Takes the octets of a stream, which is one direction of a connection, in pieces, and gives its messages.
 
     limit: the octets that a message may have, 4096 to 16777216. partials: how many may be partial at a time, 1 to 16.
+    cuts: where a message of 1.1 may be cut, one of Cuts.
     Raises LemonrudderError (RANGE).
     """
 
-    def __init__(self, limit: int = LIMIT, partials: int = PARTIALS) -> None:
+    def __init__(self, limit: int = LIMIT, partials: int = PARTIALS, cuts: int = Cuts.ALIGNED) -> None:
         super().__init__()
         self._room = ctypes.create_string_buffer(4096)
-        call(library.lr_assembler_open, self._slot, limit, partials)
+        call(library.lr_assembler_open_cuts, self._slot, limit, partials, cuts)
 
     def feed(self, octets: Octets) -> List[Message]:
         """Takes octets, and returns the messages that they complete.
@@ -162,12 +163,13 @@ def _message(size: int, function: Any, *arguments: Any) -> bytes:
     return written(size, lambda room, size: call(function, room, size, *arguments))
 
 
-def messages(octets: Octets, limit: int = LIMIT, partials: int = PARTIALS) -> Iterator[Message]:
+def messages(octets: Octets, limit: int = LIMIT, partials: int = PARTIALS,
+             cuts: int = Cuts.ALIGNED) -> Iterator[Message]:
     """The messages of a stream, one after another, fragments joined. What is left over at its end is not looked at.
 
     Limits as of Assembler. Raises StreamError where the stream has a fault, after the messages before it.
     """
-    with Assembler(limit, partials) as assembler:
+    with Assembler(limit, partials, cuts) as assembler:
         yield from assembler._each(octets)
 
 

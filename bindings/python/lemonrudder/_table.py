@@ -237,6 +237,8 @@ class ServerSetting(enum.IntEnum):
     """octets of a client's id at most; who has a longer one is answered BAD_CONTEXT: 256"""
     ASK_FIRST = 10
     """1 where you are asked before a request with FT_REQUEST is refused: 0"""
+    CUTS = 11
+    """where a message of 1.1 may be cut, one of LR_CUTS_..: 0"""
 
 
 class Counted(enum.IntEnum):
@@ -295,6 +297,8 @@ class ClientSetting(enum.IntEnum):
     """octets of a message that comes at most, 4096 to 16777216: 1048576"""
     PARTIALS = 5
     """messages that may be partial at a time, 1 to 16: 4"""
+    CUTS = 6
+    """where a message of 1.1 may be cut, one of LR_CUTS_..: 0"""
 
 
 class Ended(enum.IntEnum):
@@ -365,6 +369,17 @@ class Why(enum.IntEnum):
     """a request that came on it was given up"""
     MEMORY = 37
     """memory was short"""
+
+
+class Cuts(enum.IntEnum):
+    """Where a message of GIOP 1.1 may be cut. CORBA 3.3 Part 2, 9.4.9 leaves open whether what is aligned in a
+    Fragment of 1.1 is so from its own beginning or the message's. Frames are joined by their octets.
+    """
+
+    ALIGNED = 0
+    """where both are the same: so that the octets of each frame but the last leave 4 modulo 8"""
+    ANYWHERE = 1
+    """anywhere: what is aligned across a cut lies as its sender counted, which it doesn't say"""
 
 
 class MessageType(enum.IntEnum):
@@ -512,6 +527,7 @@ CONSTANTS: Dict[str, int] = {
     "LR_SET_DUE": 8,
     "LR_SET_CLIENT_ID": 9,
     "LR_SET_ASK_FIRST": 10,
+    "LR_SET_CUTS": 11,
     "LR_COUNT_CONNECTIONS": 0,
     "LR_COUNT_KEPT": 1,
     "LR_COUNT_PARKED_NOW": 2,
@@ -536,6 +552,7 @@ CONSTANTS: Dict[str, int] = {
     "LR_CLIENT_VERSION": 3,
     "LR_CLIENT_MESSAGE": 4,
     "LR_CLIENT_PARTIALS": 5,
+    "LR_CLIENT_CUTS": 6,
     "LR_ENDED_RETURNED": 0,
     "LR_ENDED_RAISED": 1,
     "LR_ENDED_SYSTEM": 2,
@@ -564,6 +581,8 @@ CONSTANTS: Dict[str, int] = {
     "LR_WHY_FAREWELL": 35,
     "LR_WHY_GIVEN_UP": 36,
     "LR_WHY_MEMORY": 37,
+    "LR_CUTS_ALIGNED": 0,
+    "LR_CUTS_ANYWHERE": 1,
     "LR_MSG_REQUEST": 0,
     "LR_MSG_REPLY": 1,
     "LR_MSG_CANCEL_REQUEST": 2,
@@ -707,6 +726,7 @@ FUNCTIONS: Dict[str, Tuple[str, Tuple[str, ...]]] = {
     )),
     "lr_client_output": ("int64_t", ("lr_client *", "void *", "size_t")),
     "lr_assembler_open": ("int64_t", ("lr_assembler *", "uint32_t", "uint32_t")),
+    "lr_assembler_open_cuts": ("int64_t", ("lr_assembler *", "uint32_t", "uint32_t", "uint32_t")),
     "lr_assembler_feed": ("int64_t", ("lr_assembler *", "const void *", "size_t")),
     "lr_assembler_fault": ("int64_t", ("lr_assembler *",)),
     "lr_assembler_message": ("int64_t", ("lr_assembler *", "lr_message *", "size_t")),

@@ -44,7 +44,8 @@ impl Assembler {
     /// `Range`, `Memory`.
     pub fn open(limits: Limits) -> Result<Assembler, Error> {
         let mut slot = lr_slot::empty();
-        done(sys::lr_assembler_open(&mut slot, limits.message, limits.partials))?;
+        let Limits { message, partials, cuts } = limits;
+        done(sys::lr_assembler_open_cuts(&mut slot, message, partials, cuts.number()))?;
         Ok(Assembler { slot, parts: Default::default() })
     }
 

@@ -104,7 +104,8 @@ impl Client {
     /// `Range`, and `Open`: it is too late.
     pub fn set_limits(&mut self, limits: Limits) -> Result<(), Error> {
         self.set(sys::LR_CLIENT_MESSAGE, limits.message)?;
-        self.set(sys::LR_CLIENT_PARTIALS, limits.partials)
+        self.set(sys::LR_CLIENT_PARTIALS, limits.partials)?;
+        self.set(sys::LR_CLIENT_CUTS, limits.cuts.number())
     }
 
     /// Says how much memory may be taken for what is read of a reply, as [`Reader::limit`] does.

@@ -53,8 +53,8 @@ pub use ior::{Address, Components, Ior, Profile, Profiles};
 pub use limits::Limits;
 pub use moment::Moment;
 pub use numbers::{
-    Completed, Counted, Ended, Fault, LocateStatus, MessageType, Order, Part, Status, SystemName,
-    Version, Why, Wish,
+    Completed, Counted, Cuts, Ended, Fault, LocateStatus, MessageType, Order, Part, Status,
+    SystemName, Version, Why, Wish,
 };
 pub use outcome::Outcome;
 pub use server::{Due, FtRequest, Request, Server, Settings, Ticket};

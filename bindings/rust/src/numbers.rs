@@ -287,6 +287,15 @@ numbers! {
         Fragment = LR_MSG_FRAGMENT,
     }
 
+    /// Where a message of GIOP 1.1 may be cut. CORBA 3.3 Part 2, 9.4.9 leaves open whether what is aligned in
+    /// a Fragment of 1.1 is so from its own beginning or the message's.
+    Cuts {
+        /// Where both are the same: the octets of each frame but the last leave 4 modulo 8.
+        Aligned = LR_CUTS_ALIGNED,
+        /// Anywhere. What is aligned across a cut lies as its sender counted, which it doesn't say.
+        Anywhere = LR_CUTS_ANYWHERE,
+    }
+
     /// The first fault of a stream.
     Fault {
         /// A header doesn't begin with `GIOP`.

@@ -6,8 +6,8 @@ use crate::contexts::Contexts;
 use crate::error::{self, copied, count, done, sure};
 use crate::sys::{self, lr_request, lr_slot};
 use crate::{
-    Catalogue, Completed, Counted, Error, Moment, Order, Part, Status, SystemName, Version, Why,
-    Wish,
+    Catalogue, Completed, Counted, Cuts, Error, Moment, Order, Part, Status, SystemName, Version,
+    Why, Wish,
 };
 use alloc::boxed::Box;
 use alloc::vec::Vec;
@@ -49,6 +49,12 @@ impl Settings {
     fn with(mut self, what: u32, number: u64) -> Settings {
         self.limits.push((what, number));
         self
+    }
+
+    /// Where a message of 1.1 may be cut. Else where that is aligned.
+    #[must_use]
+    pub fn cuts(self, cuts: Cuts) -> Settings {
+        self.with(sys::LR_SET_CUTS, cuts.number().into())
     }
 
     settings! {

@@ -192,5 +192,5 @@ fn an_object_is_that_of_a_reference() {
     drop(object);
     assert_eq!(served.join().unwrap(), 1);
     assert_eq!(Object::of("IOR:00").err(), Some(Error::Reference));
-    assert_eq!(Object::of("corbaloc::a/b").err(), Some(Error::Reference));
+    assert_eq!(Object::of("corbaloc:rir:/b").err(), Some(Error::Reference));
 }

@@ -3,8 +3,8 @@
 use lemonrudder::cdr::Writer;
 use lemonrudder::write::{self, Request};
 use lemonrudder::{
-    Assembler, Error, Fault, FtRequest, Limits, LocateStatus, MessageType, Moment, Order, Status,
-    Version, Wish,
+    Assembler, Cuts, Error, Fault, FtRequest, Limits, LocateStatus, MessageType, Moment, Order,
+    Status, Version, Wish,
 };
 
 /// `add(7)` of 1.2, with FT_REQUEST: client `A`, its request 1, the last expiration.
@@ -76,6 +76,22 @@ fn a_long_context_is_copied_whole() -> Result<(), Error> {
     // it doesn't read as FT_REQUEST
     assert_eq!(message.ft_request(), None);
     assert!(message.contexts().eq([Ok((13, context))]));
+    Ok(())
+}
+
+/// A Reply of 1.1 of 24 octets whose last Fragment is empty.
+const CUT: &[u8] =
+    b"GIOP\x01\x01\x02\x01\0\0\0\x0c\0\0\0\0\0\0\0\x07\0\0\0\0GIOP\x01\x01\0\x07\0\0\0\0";
+
+#[test]
+fn a_message_of_1_1_is_joined_where_it_may_be_cut_anywhere() -> Result<(), Error> {
+    let mut assembler = Assembler::open(Limits::default())?;
+    assert_eq!(assembler.feed(CUT), Err(Error::Stream));
+    assert_eq!(assembler.fault(), Some(Fault::UnalignedFragment));
+    let mut assembler = Assembler::open(Limits { cuts: Cuts::Anywhere, ..Limits::default() })?;
+    assert_eq!(assembler.feed(CUT)?, CUT.len());
+    let message = assembler.message()?.expect("it is whole");
+    assert_eq!((message.version(), message.request_id()), (Version::V11, 7));
     Ok(())
 }
 
@@ -198,7 +214,9 @@ fn what_no_message_can_have_is_refused() -> Result<(), Error> {
     assert_eq!(write::reply(Version::V11, Order::Big, 1, forward, b""), Err(Error::Range));
     let ft = FtRequest { client_id: b"A\0", ..FT };
     assert_eq!(write::ft_request(Order::Big, &ft), Err(Error::Text));
-    assert_eq!(Assembler::open(Limits { message: 4095, partials: 1 }).err(), Some(Error::Range));
-    assert_eq!(Assembler::open(Limits { message: 4096, partials: 17 }).err(), Some(Error::Range));
+    let limits = Limits::default();
+    for limits in [Limits { message: 4095, ..limits }, Limits { partials: 17, ..limits }] {
+        assert_eq!(Assembler::open(limits).err(), Some(Error::Range));
+    }
     Ok(())
 }

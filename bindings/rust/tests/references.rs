@@ -90,7 +90,7 @@ fn the_nil_reference_has_no_profiles() -> Result<(), Error> {
 
 #[test]
 fn what_is_no_reference_is_refused() {
-    for text in ["", "IOR:", "IOR:0", "IOR:zz", "corbaloc::host/key", &COUNTER[..50]] {
+    for text in ["", "IOR:", "IOR:0", "IOR:zz", "corbaloc:rir:/key", &COUNTER[..50]] {
         assert_eq!(text.parse::<Ior>().err(), Some(Error::Reference), "{text}");
     }
     let ior = Ior::iiop("IDL:A\0", Version::V12, "host", 1, b"");

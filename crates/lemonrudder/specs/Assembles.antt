@@ -1,9 +1,10 @@
 -- What a call on an assembler does.
-use Rattle.std.specs.Prelude.{◌≡◌, ℕ, ◌<◌, ◌≤◌, ◌==◌, if◌then◌else◌, IsTrue, false, List, [], ◌++◌, length, take, None, Result, Ok, Err}
+use Rattle.std.specs.Prelude.{◌≡◌, ℕ, ◌<◌, ◌≤◌, ◌==◌, if◌then◌else◌, IsTrue, false, List, [], ◌++◌, length, take, Option, Some, None, Result, Ok, Err}
 use Rattle.giop_core.specs.declared.header.HeaderFault.{HeaderFault}
 use Rattle.giop_core.specs.declared.header.HeaderFault.TheVariants as header
 use Rattle.giop_frames.specs.declared.fault.StreamFault.{StreamFault}
 use Rattle.giop_frames.specs.declared.fault.StreamFault.TheVariants as fault
+use Rattle.giop_frames.specs.declared.limits.Cuts.{Cuts}
 use Rattle.giop_frames.specs.Standing.{IsFault, StandsFor, completed_at}
 use Rattle.giop_frames.specs.Streams.{messages_of}
 use Rattle.lemonrudder.specs.Assembled.{Assembled}
@@ -36,9 +37,14 @@ abbrev pub kept_fault : ℕ → StreamFault → ℕ
 kept_fault old f = if old == 0 then fault_number f else old
 
 -- an assembler of a stream of which nothing has come; or its limits are none
-abbrev pub IsNew : (message partials : ℕ) → Result Assembled Refusal → Type 0
-IsNew message partials (Ok s) = StandsFor s.assembler [] × (s.assembler.message ≡ None) × HasLimits message partials s.assembler.limits × (s.fault ≡ 0)
-IsNew message partials (Err e) = (e ≡ Range) × (¬ (AreLimits message partials))
+abbrev pub IsNewWith : (message partials : ℕ) → Cuts → Result Assembled Refusal → Type 0
+IsNewWith message partials cuts (Ok s) = StandsFor s.assembler [] × (s.assembler.message ≡ None) × HasLimits message partials cuts s.assembler.limits × (s.fault ≡ 0)
+IsNewWith message partials cuts (Err e) = (e ≡ Range) × (¬ (AreLimits message partials))
+
+-- .. or no cuts have their number
+abbrev pub IsNew : (message partials : ℕ) → Option Cuts → Result Assembled Refusal → Type 0
+IsNew message partials None r = r ≡ Err Range
+IsNew message partials (Some cuts) r = IsNewWith message partials cuts r
 
 -- octets were taken, of a stream without a fault: the messages are those before, and the one that is lent, if there is one
 abbrev pub Takes : List ℕ → ℕ → Assembled → Assembled → Type 0

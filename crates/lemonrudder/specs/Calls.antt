@@ -7,6 +7,7 @@ use Rattle.cdr_core.specs.Spelling.{IsClean}
 use Rattle.giop_core.specs.Content.{Rest}
 use Rattle.giop_core.specs.declared.reply.ReplyStatus.TheVariants.{LocationForward, NoException, UserException}
 use Rattle.giop_core.specs.declared.header.Version.TheVariants.{V12}
+use Rattle.giop_frames.specs.declared.limits.Cuts.TheVariants.{Aligned}
 use Rattle.giop_frames.specs.declared.limits.Limits.{Limits}
 use Rattle.ft_client.specs.Clients.{Cancelled, Client, Ended, Expired, Fed, Happening, Joined, NeedsAddressing, Recalled, Sent, Taken, Ticked, Told, after, find_pending, new_client, parted, says, told_of}
 use Rattle.ft_client.specs.Directions.{stream}
@@ -142,7 +143,7 @@ IsName id = (1 ≤ length id) × (length id ≤ 256) × IsClean id
 -- a client is made that has made no call: its messages are in 1.2, and its connections have messages of up to 1048576 octets, and 4
 -- that are partial; or its name is not allowed; or memory is short
 abbrev pub IsMade : (id : List ℕ) → Result Calling Refusal → Type 0
-IsMade id (Ok s) = (limits : Limits) × HasLimits 1048576 4 limits × Stands s (record { client = new_client id V12 limits; due = []; last = None })
+IsMade id (Ok s) = (limits : Limits) × HasLimits 1048576 4 Aligned limits × Stands s (record { client = new_client id V12 limits; due = []; last = None })
 IsMade id (Err refusal.Text) = ¬ (IsName id)
 IsMade id (Err refusal.Memory) = IsName id
 IsMade id (Err e) = ⊥

@@ -6,6 +6,8 @@ use Rattle.giop_core.specs.declared.header.Version.{Version}
 use Rattle.giop_core.specs.declared.header.Version.TheVariants.{V10, V11, V12}
 use Rattle.giop_core.specs.declared.request.ReplyWish.{ReplyWish}
 use Rattle.giop_core.specs.declared.request.ReplyWish.TheVariants as wish
+use Rattle.giop_frames.specs.declared.limits.Cuts.{Cuts}
+use Rattle.giop_frames.specs.declared.limits.Cuts.TheVariants.{Aligned, Anywhere}
 use Rattle.giop_frames.specs.declared.limits.Limits.{Limits}
 use Rattle.ft_log.specs.declared.outcome.RawStatus.{RawStatus}
 use Rattle.ft_log.specs.declared.outcome.RawStatus.TheVariants.{LocationForward, NoException, SystemException, UserException}
@@ -40,6 +42,14 @@ order_number Little = 1
 abbrev pub truth_named : ℕ → Option Bool
 truth_named n = if n == 0 then Some false else (if n == 1 then Some true else None)
 
+-- 0 names aligned cuts of messages of 1.1, and 1 cuts anywhere
+abbrev pub cuts_named : ℕ → Option Cuts
+cuts_named n = if n == 0 then Some Aligned else (if n == 1 then Some Anywhere else None)
+
+-- cuts where nothing is said
+abbrev pub aligned : Option Cuts
+aligned = Some Aligned
+
 -- the number of a call: none is below 0, or more than the greatest long
 abbrev pub call_numbered : ℤ → Option ℕ
 call_numbered (pos n) = if nat_lt n 2147483648 then Some n else None
@@ -69,14 +79,14 @@ version_named n = if n == 0 then Some V10 else (if n == 1 then Some V11 else (if
 abbrev pub AreLimits : (message partials : ℕ) → Type 0
 AreLimits message partials = (4096 ≤ message) × (message ≤ 16777216) × (1 ≤ partials) × (partials ≤ 16)
 
--- limits of these numbers, which are allowed
-abbrev pub HasLimits : (message partials : ℕ) → Limits → Type 0
-HasLimits message partials limits = AreLimits message partials × (limits.message ≡ message) × (limits.partials ≡ partials)
+-- limits of these numbers, which are allowed, and with these cuts
+abbrev pub HasLimits : (message partials : ℕ) → Cuts → Limits → Type 0
+HasLimits message partials cuts limits = AreLimits message partials × (limits.message ≡ message) × (limits.partials ≡ partials) × (limits.cuts ≡ cuts)
 
 -- the limits of these numbers, or the refusal of numbers that are not allowed
-abbrev pub GivesLimits : (message partials : ℕ) → Result Limits Refusal → Type 0
-GivesLimits message partials (Ok limits) = HasLimits message partials limits
-GivesLimits message partials (Err e) = (e ≡ Range) × (¬ (AreLimits message partials))
+abbrev pub GivesLimits : (message partials : ℕ) → Cuts → Result Limits Refusal → Type 0
+GivesLimits message partials cuts (Ok limits) = HasLimits message partials cuts limits
+GivesLimits message partials cuts (Err e) = (e ≡ Range) × (¬ (AreLimits message partials))
 
 -- GIOP 9.4.3: the status of a reply, a completion, each by its ordinal
 abbrev pub raw_status_named : ℕ → Option RawStatus

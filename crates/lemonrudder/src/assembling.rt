@@ -11,7 +11,7 @@ use crate::lent::{
     ft_of, id_of, key_of, kind_of, operation_of, part_of, payload_of, place_of, retention_of,
     size_of, status_of, wish_of,
 };
-use crate::named::{limits_of, minor_of, number_of_order};
+use crate::named::{cuts_of, limits_of, minor_of, number_of_order};
 use crate::refusal::{Refusal, copied};
 use giop_core::{HeaderFault, Message};
 use giop_frames::{Assembler, StreamFault};
@@ -148,12 +148,13 @@ impl Assembling {
     ghost use Rattle.giop_core.specs.Items.{item_at};
     ghost use Rattle.lemonrudder.specs.Assembles.{IsNew, OnFault, OnFeed};
     ghost use Rattle.lemonrudder.specs.Lends.{OnContext, OnMessage, OnPart, context_in, said};
+    ghost use Rattle.lemonrudder.specs.Naming.{cuts_named};
 
     /// An assembler of which nothing has come.
-    pub fn new(alloc: Global, message: u32, partials: u32) -> Result<Assembling, Refusal>
-        ensures { IsNew message partials result }
+    pub fn new(alloc: Global, message: u32, partials: u32, cuts: u32) -> Result<Assembling, Refusal>
+        ensures { IsNew message partials (cuts_named cuts) result }
     {
-        let limits = limits_of(message, partials)?;
+        let limits = limits_of(message, partials, cuts_of(u64::from(cuts))?)?;
         Ok(Assembling {
             alloc,
             assembler: Assembler::new(alloc, limits),

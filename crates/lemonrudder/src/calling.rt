@@ -15,6 +15,7 @@ use crate::refusal::{Refusal, copied, count_of};
 use cdr_core::has_no_nul;
 use ft_client::{Ended, FtClient, ReplyBody};
 use giop_core::Version;
+use giop_frames::Cuts;
 pub use raw::RawQuestion;
 use std::alloc::Global;
 
@@ -124,7 +125,7 @@ impl Calling {
     pub fn new(alloc: Global, id: &[u8]) -> Result<Calling, Refusal>
         ensures { IsMade id.now result }
     {
-        let limits = limits_of(MESSAGE, PARTIALS)?;
+        let limits = limits_of(MESSAGE, PARTIALS, Cuts::Aligned)?;
         if id.is_empty() || id.len() > 256 || !has_no_nul(id) {
             return Err(Refusal::Text);
         }

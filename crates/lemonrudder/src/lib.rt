@@ -37,7 +37,7 @@ pub use exports::{lr_close, lr_moment, lr_version};
 // the messages of a stream
 pub use exports::assembler::{
     lr_assembler_context, lr_assembler_fault, lr_assembler_feed, lr_assembler_message,
-    lr_assembler_open, lr_assembler_part,
+    lr_assembler_open, lr_assembler_open_cuts, lr_assembler_part,
 };
 
 // which objects a server has

@@ -1,13 +1,13 @@
 //! Numbers of the header, and what they name.
 
 ghost use Rattle.std.specs.Prelude.{◌≡◌};
-ghost use Rattle.lemonrudder.specs.Naming.{GivesLimits, call_numbered, completion_named, minor_number, or_range, order_named, order_number, raw_status_named, system_name_named, system_number, truth_named, version_named, wish_named, wish_number};
+ghost use Rattle.lemonrudder.specs.Naming.{GivesLimits, call_numbered, completion_named, cuts_named, minor_number, or_range, order_named, order_number, raw_status_named, system_name_named, system_number, truth_named, version_named, wish_named, wish_number};
 
 use crate::refusal::Refusal;
 use cdr_core::Order;
 use ft_log::{Completion, RawStatus, SystemName};
 use giop_core::{ReplyWish, Version};
-use giop_frames::Limits;
+use giop_frames::{Cuts, Limits};
 
 /// The version of a minor number.
 pub fn version_of(minor: u32) -> Result<Version, Refusal>
@@ -64,6 +64,17 @@ pub fn truth_of(number: u64) -> Result<bool, Refusal>
     }
 }
 
+/// The cuts of a number: 0 is aligned, 1 anywhere.
+pub fn cuts_of(number: u64) -> Result<Cuts, Refusal>
+    ensures { result ≡ or_range (cuts_named number) }
+{
+    match number {
+        0 => Ok(Cuts::Aligned),
+        1 => Ok(Cuts::Anywhere),
+        _ => Err(Refusal::Range),
+    }
+}
+
 /// The greatest number of a call, the greatest long.
 const LAST: u32 = 2_147_483_647;
 
@@ -101,11 +112,12 @@ pub fn number_of_wish(wish: ReplyWish) -> u32
 }
 
 /// The limits of a connection.
-pub fn limits_of(message: u32, partials: u32) -> Result<Limits, Refusal>
-    ensures { GivesLimits message partials result }
+pub fn limits_of(message: u32, partials: u32, cuts: Cuts) -> Result<Limits, Refusal>
+    ensures { GivesLimits message partials cuts result }
 {
     let partials = u8::try_from(partials).map_err(|_| Refusal::Range)?;
-    Limits::new(message, partials).ok_or(Refusal::Range)
+    let limits = Limits::new(message, partials).ok_or(Refusal::Range)?;
+    Ok(limits.with_cuts(cuts))
 }
 
 /// The status of a raw reply.

@@ -3,18 +3,22 @@
 ghost use Rattle.std.specs.Prelude.{◌≡◌, ◌↔◌, ◌≤◌, IfErr, IfOk, IsTrue};
 ghost use Rattle.cdr_core.specs.Value as value;
 ghost use Rattle.cdr_core.specs.Writing.{IsWritable};
-ghost use Rattle.lemonrudder.specs.Makes.{IsProfile, profile_to, reference_to};
+ghost use Rattle.lemonrudder.specs.Makes.{IsLocated, IsProfile, profile_to, reference_to};
 ghost use Rattle.lemonrudder.specs.Profiles.{head_of};
 
 use crate::layout::Layout;
 use crate::refusal::{Refusal, copied, count_of, fitted};
 use crate::sizes::{COUNTED, has_room_for_text, profile_end};
 use cdr_core::has_no_nul;
+use corbaloc::{LocationError, parse_location, reference_of};
 use ior_core::{
     Component, IiopProfile, Ior, IorError, Profile, TAG_INTERNET_IOP, parse_text, print_text,
     read_iiop, write_iiop,
 };
 use std::alloc::{AllocError, Global};
+
+/// How many addresses of a URL are taken: each has the whole key.
+const MOST_ADDRESSES: usize = 64;
 
 /// A profile of a reference: `lr_profile`.
 #[derive(Clone, Copy, Debug, Drop)]
@@ -105,6 +109,25 @@ impl Address<'_> {
     }
 }
 
+/// The reference that a URL stands for. None where it is no URL, or is too large.
+fn located(alloc: Global, text: &str) -> Result<Option<Ior>, AllocError>
+    ensures { IfOk result (λ found. IsLocated text.now found) }
+{
+    let location = match parse_location(alloc, text) {
+        Ok(location) => location,
+        Err(LocationError::Memory) => return Err(AllocError),
+        Err(_) => return Ok(None),
+    };
+    if location.addresses.len() > MOST_ADDRESSES {
+        return Ok(None);
+    }
+    match reference_of(alloc, &location) {
+        Ok(ior) => Ok(Some(ior)),
+        Err(LocationError::Memory) => Err(AllocError),
+        Err(_) => Ok(None),
+    }
+}
+
 /// The profile of an address, which can be written.
 fn profile_of(alloc: Global, minor: u8, address: &Address<'_>) -> Result<Profile, AllocError>
     requires { IsWritable (profile_to minor address.now.host.now address.now.port address.now.key.now) }
@@ -157,15 +180,19 @@ impl Referring {
     ghost use Rattle.lemonrudder.specs.Profiles.{IsSeenAt, OnComponent, OnPart, OnProfile, profile_at};
     ghost use Rattle.lemonrudder.specs.Refers.{OnPrint, OnProfiles, OnTypeId};
 
-    /// The reference that a text spells.
+    /// The reference that a text spells: `IOR:` and digits, or a URL `corbaloc:`.
     pub fn parse(alloc: Global, text: &[u8]) -> Result<Referring, Refusal>
         ensures { IsParsed text.now result }
     {
         let text = std::str::from_utf8(text).map_err(|_| Refusal::Reference)?;
-        Ok(Referring {
-            alloc,
-            ior: parse_text(alloc, text)?,
-        })
+        match parse_text(alloc, text) {
+            Ok(ior) => Ok(Referring { alloc, ior }),
+            Err(IorError::NoPrefix) => match located(alloc, text)? {
+                Some(ior) => Ok(Referring { alloc, ior }),
+                None => Err(Refusal::Reference),
+            },
+            Err(error) => Err(Refusal::from(error)),
+        }
     }
 
     /// A reference of a type to an object at an address. Where it is refused no memory is taken.

@@ -3,7 +3,7 @@
 ghost use Rattle.std.specs.Prelude.{◌≡◌, ◌≤◌, Some, None, IfErr, IfOk};
 ghost use Rattle.lemonrudder.specs.Limited.{limited, set_to, usual};
 
-use crate::named::{limits_of, truth_of};
+use crate::named::{cuts_of, limits_of, truth_of};
 use crate::refusal::Refusal;
 use crate::seed::Seed;
 use crate::serving::Said;
@@ -88,9 +88,10 @@ impl Terms {
         ensures err { IfErr result (λ e. (e ≡ Refusal.Range) × (set_to what value (limited self) ≡ None)) }
     {
         let mut terms = self;
+        let set = self.limits;
         match what {
-            1 => terms.limits = limits_of(in_32_bits(value)?, u32::from(self.limits.partials))?,
-            2 => terms.limits = limits_of(self.limits.message, in_32_bits(value)?)?,
+            1 => terms.limits = limits_of(in_32_bits(value)?, u32::from(set.partials), set.cuts)?,
+            2 => terms.limits = limits_of(set.message, in_32_bits(value)?, set.cuts)?,
             3 => terms.capacity = in_32_bits(value)?,
             4 => terms.share = in_32_bits(value)?,
             5 => terms.places.parked = in_32_bits(value)?,
@@ -99,6 +100,7 @@ impl Terms {
             8 => terms.due = at_least_1(value)? as usize,
             9 => terms.longest = value as usize,
             10 => terms.first = truth_of(value)?,
+            11 => terms.limits = set.with_cuts(cuts_of(value)?),
             _ => return Err(Refusal::Range),
         }
         Ok(terms)

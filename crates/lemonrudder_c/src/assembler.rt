@@ -4,6 +4,7 @@ ghost use Rattle.std.specs.Prelude.{◌≡◌, ◌<ℤ◌, ◌≤ℤ◌, pos};
 ghost use Rattle.lemonrudder.specs.Answers.{OnAssembler};
 ghost use Rattle.lemonrudder.specs.Assembles.{IsNew, OnFault, OnFeed};
 ghost use Rattle.lemonrudder.specs.Lends.{OnContext, OnMessage, OnPart};
+ghost use Rattle.lemonrudder.specs.Naming.{aligned, cuts_named};
 ghost use Rattle.lemonrudder.specs.Opening.{OpensMade};
 ghost use Rattle.lemonrudder.specs.Slots.{held_in};
 ghost use Rattle.lemonrudder.specs.declared.object.Object.TheVariants as Object;
@@ -19,9 +20,23 @@ pub extern "C" fn lr_assembler_open(
     message_limit: u32,
     partials: u32,
 ) -> i64
-    ensures { OpensMade Object.Assembler (IsNew message_limit partials) (held_in slot.old) (held_in slot.new) result }
+    ensures { OpensMade Object.Assembler (IsNew message_limit partials aligned) (held_in slot.old) (held_in slot.new) result }
 {
     lemonrudder::lr_assembler_open(alloc, slot, message_limit, partials)
+}
+
+/// Opens one of a stream whose messages of 1.1 may be cut as a number says.
+#[unsafe(no_mangle)]
+pub extern "C" fn lr_assembler_open_cuts(
+    alloc: Global,
+    slot: &mut Slot,
+    message_limit: u32,
+    partials: u32,
+    cuts: u32,
+) -> i64
+    ensures { OpensMade Object.Assembler (IsNew message_limit partials (cuts_named cuts)) (held_in slot.old) (held_in slot.new) result }
+{
+    lemonrudder::lr_assembler_open_cuts(alloc, slot, message_limit, partials, cuts)
 }
 
 /// Takes octets up to and with the end of the next message, and answers how many.

@@ -139,6 +139,7 @@ pub const LR_SET_JOINED: u32 = 7;
 pub const LR_SET_DUE: u32 = 8;
 pub const LR_SET_CLIENT_ID: u32 = 9;
 pub const LR_SET_ASK_FIRST: u32 = 10;
+pub const LR_SET_CUTS: u32 = 11;
 
 pub const LR_COUNT_CONNECTIONS: u32 = 0;
 pub const LR_COUNT_KEPT: u32 = 1;
@@ -165,6 +166,7 @@ pub const LR_CLIENT_KEEP_FORWARD: u32 = 2;
 pub const LR_CLIENT_VERSION: u32 = 3;
 pub const LR_CLIENT_MESSAGE: u32 = 4;
 pub const LR_CLIENT_PARTIALS: u32 = 5;
+pub const LR_CLIENT_CUTS: u32 = 6;
 
 pub const LR_ENDED_RETURNED: u32 = 0;
 pub const LR_ENDED_RAISED: u32 = 1;
@@ -196,6 +198,9 @@ pub const LR_WHY_ERROR: u32 = 34;
 pub const LR_WHY_FAREWELL: u32 = 35;
 pub const LR_WHY_GIVEN_UP: u32 = 36;
 pub const LR_WHY_MEMORY: u32 = 37;
+
+pub const LR_CUTS_ALIGNED: u32 = 0;
+pub const LR_CUTS_ANYWHERE: u32 = 1;
 
 pub const LR_MSG_REQUEST: u32 = 0;
 pub const LR_MSG_REPLY: u32 = 1;
@@ -573,6 +578,12 @@ unsafe extern "C" {
         assembler: &mut lr_slot,
         message_limit: u32,
         partials: u32,
+    ) -> i64;
+    pub safe fn lr_assembler_open_cuts(
+        assembler: &mut lr_slot,
+        message_limit: u32,
+        partials: u32,
+        cuts: u32,
     ) -> i64;
     pub fn lr_assembler_feed(assembler: &mut lr_slot, octets: *const c_void, size: usize) -> i64;
     pub safe fn lr_assembler_fault(assembler: &mut lr_slot) -> i64;

@@ -1,7 +1,7 @@
 //! What is set of a client.
 
 use crate::calling::Calling;
-use crate::named::{limits_of, truth_of, version_of};
+use crate::named::{cuts_of, limits_of, truth_of, version_of};
 use crate::refusal::Refusal;
 use crate::terms::in_32_bits;
 use giop_core::Version;
@@ -12,8 +12,8 @@ impl Calling {
     ghost use Rattle.std.specs.Option.{option_map};
     ghost use Rattle.ft_client.specs.Clients.{Kept, KeptForwards};
     ghost use Rattle.lemonrudder.specs.Calls.{Standing, Stands};
-    ghost use Rattle.lemonrudder.specs.Naming.{truth_named, version_named};
-    ghost use Rattle.lemonrudder.specs.Adjusts.{Makes, MakesLimited, OnSet, Sets, keeping, message, partials, version};
+    ghost use Rattle.lemonrudder.specs.Naming.{cuts_named, truth_named, version_named};
+    ghost use Rattle.lemonrudder.specs.Adjusts.{Makes, MakesLimited, OnSet, Sets, cuts, keeping, message, partials, version};
 
     /// Sets what a client keeps, or what it is made with.
     pub fn set(&mut self, what: u32, value: u64) -> Result<u64, Refusal>
@@ -25,6 +25,7 @@ impl Calling {
             3 => self.set_version(value),
             4 => self.set_message(value),
             5 => self.set_partials(value),
+            6 => self.set_cuts(value),
             _ => Err(Refusal::Range),
         }
     }
@@ -72,11 +73,22 @@ impl Calling {
         self.limit(message, in_32_bits(value)?)
     }
 
-    /// The limits of its connections.
+    /// Where a message of 1.1 may be cut.
+    fn set_cuts(&mut self, value: u64) -> Result<u64, Refusal>
+        ensures { Sets (option_map cuts (cuts_named value)) self.old self.new result }
+    {
+        let cuts = cuts_of(value)?;
+        let limits = self.client.limits().with_cuts(cuts);
+        let version = self.client.version();
+        self.make_with(version, limits)
+    }
+
+    /// The limits of its connections, with the same cuts.
     fn limit(&mut self, message: u32, partials: u32) -> Result<u64, Refusal>
         ensures { (x : Standing) → Stands self.old x → MakesLimited message partials x self.new result }
     {
-        let limits = limits_of(message, partials)?;
+        let cuts = self.client.limits().cuts;
+        let limits = limits_of(message, partials, cuts)?;
         let version = self.client.version();
         self.make_with(version, limits)
     }

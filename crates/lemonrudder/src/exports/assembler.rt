@@ -5,6 +5,7 @@ ghost use Rattle.std.specs.Prelude.{◌≡◌, ◌<ℤ◌, ◌≤ℤ◌, pos};
 ghost use Rattle.lemonrudder.specs.Answers.{OnAssembler};
 ghost use Rattle.lemonrudder.specs.Assembles.{IsNew, OnFault, OnFeed};
 ghost use Rattle.lemonrudder.specs.Lends.{OnContext, OnMessage, OnPart};
+ghost use Rattle.lemonrudder.specs.Naming.{aligned, cuts_named};
 ghost use Rattle.lemonrudder.specs.Opening.{OpensMade};
 ghost use Rattle.lemonrudder.specs.Slots.{held_in};
 
@@ -17,12 +18,25 @@ use std::alloc::Global;
 
 /// Opens an assembler of a stream of which nothing has come.
 pub fn lr_assembler_open(alloc: Global, slot: &mut Slot, message_limit: u32, partials: u32) -> i64
-    ensures { OpensMade Object.Assembler (IsNew message_limit partials) (held_in slot.old) (held_in slot.new) result }
+    ensures { OpensMade Object.Assembler (IsNew message_limit partials aligned) (held_in slot.old) (held_in slot.new) result }
+{
+    lr_assembler_open_cuts(alloc, slot, message_limit, partials, 0)
+}
+
+/// Opens one of a stream whose messages of 1.1 may be cut as a number says.
+pub fn lr_assembler_open_cuts(
+    alloc: Global,
+    slot: &mut Slot,
+    message_limit: u32,
+    partials: u32,
+    cuts: u32,
+) -> i64
+    ensures { OpensMade Object.Assembler (IsNew message_limit partials (cuts_named cuts)) (held_in slot.old) (held_in slot.new) result }
 {
     if !slot.is_empty() {
         return Refusal::Open.number();
     }
-    match Assembling::new(alloc, message_limit, partials) {
+    match Assembling::new(alloc, message_limit, partials, cuts) {
         Ok(assembling) => open(alloc, slot, Object::Assembler(assembling)),
         Err(refusal) => refusal.number(),
     }

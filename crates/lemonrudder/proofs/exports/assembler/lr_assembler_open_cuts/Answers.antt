@@ -3,7 +3,7 @@ use Rattle.std.proofs.lemmas.Int.{to_z-of_z}
 use mir.Syntax.{w64}
 use mir.Val.{SFits}
 use Rattle.lemonrudder.proofs.Opening.{in_use, opens_made}
-use Rattle.lemonrudder.proofs.exports.assembler.lr_assembler_open.Goals as goal
+use Rattle.lemonrudder.proofs.exports.assembler.lr_assembler_open_cuts.Goals as goal
 
 pub returns-then-not-is_empty : goal.returns-then-not-is_empty
 returns-then-not-is_empty c = let fits : SFits w64 c.number.result = search rules in in_use _ _ _ _ _ _ (to_z-of_z w64 c.number.result fits) c.is_empty.ensures c.if-not-is_empty.true c.number.ensures
