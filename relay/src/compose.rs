@@ -4,13 +4,17 @@
 //! modulo 8, at which it came. In 1.2 that is a multiple of 8. In 1.0 and 1.1 it stands where the
 //! header ends, which is moved by a service context that says nothing.
 
+use crate::cuts::Cuts;
 use lemonrudder::{Order, Version, Wish};
+use std::sync::Arc;
 
 /// How many octets a message may have.
 pub const LONGEST: usize = 16 << 20;
 /// The id of the service context that says nothing, of a vendor's range (9.7.1, 7.7.1): who does not
 /// know it passes over it.
 pub const PADDING: u32 = 0x4c52_0000;
+/// That of the one that says of which store a guard is.
+pub const STORE: u32 = 0x4c52_0001;
 
 const HEADER: usize = 12;
 const REQUEST: u8 = 0;
@@ -38,11 +42,40 @@ pub struct Head {
 pub struct Body {
     pub octets: Vec<u8>,
     pub place: u64,
+    /// Where it was cut in a message of 1.1.
+    pub cuts: Cuts,
 }
 
-/// A Request of this id. None, where it would be too long, or its body can't stand where it has to.
-pub fn request(head: &Head, id: u32, body: &Body) -> Option<Vec<u8>> {
-    let size = head.key.len() + head.operation.len() + body.octets.len();
+impl Body {
+    /// One that was not cut.
+    #[must_use]
+    pub fn at(place: u64, octets: Vec<u8>) -> Body {
+        Body { octets, place, cuts: Cuts::default() }
+    }
+}
+
+/// A Request of this id: its octets up to its body, and that; or all of them, and none, where it has
+/// to be cut. None, where it would be too long, or its body can't stand where it has to.
+pub fn request(head: &Head, id: u32, body: &Arc<Body>) -> Option<(Vec<u8>, Arc<Body>)> {
+    let mut octets = head_of_request(head, id, body)?;
+    if head.version != Version::V11 || body.cuts.are_none() {
+        return Some((octets, body.clone()));
+    }
+    octets.extend_from_slice(&body.octets);
+    Some((cut(head.version, octets, body), Arc::default()))
+}
+
+/// A message with its body behind it, in 1.1 cut where that was.
+fn cut(version: Version, message: Vec<u8>, body: &Body) -> Vec<u8> {
+    match version {
+        Version::V11 => body.cuts.cut(message, body.octets.len()),
+        Version::V10 | Version::V12 => message,
+    }
+}
+
+/// What stands before the body in a Request of this id.
+fn head_of_request(head: &Head, id: u32, body: &Body) -> Option<Vec<u8>> {
+    let size = head.key.len() + head.operation.len();
     moved(body, head.version, |padding| {
         let mut out = begun(head.version, head.order, REQUEST, size);
         if head.version != Version::V12 {
@@ -77,7 +110,7 @@ pub fn reply(
     contexts: &Contexts,
     body: &Body,
 ) -> Option<Vec<u8>> {
-    moved(body, version, |padding| {
+    let mut reply = moved(body, version, |padding| {
         let mut out = begun(version, order, REPLY, body.octets.len());
         if version != Version::V12 {
             out.contexts(contexts, padding)?;
@@ -88,11 +121,13 @@ pub fn reply(
             out.contexts(contexts, None)?;
         }
         Some(out.octets)
-    })
+    })?;
+    reply.extend_from_slice(&body.octets);
+    Some(cut(version, reply, body))
 }
 
-/// The header of a message, and a body behind it, in a message of at most [`LONGEST`] octets. The
-/// header is written without a context that says nothing, or with one of so many octets.
+/// The header of a message that has a body behind it, and at most [`LONGEST`] octets. It is written
+/// without a context that says nothing, or with one of so many octets.
 fn moved(
     body: &Body,
     version: Version,
@@ -109,8 +144,7 @@ fn moved(
     if !is_at(&octets) || octets.len() + body.octets.len() > LONGEST {
         return None;
     }
-    octets.extend_from_slice(&body.octets);
-    let size = u32::try_from(octets.len() - HEADER).ok()?;
+    let size = u32::try_from(octets.len() + body.octets.len() - HEADER).ok()?;
     let order = if octets[6] & 1 == 1 { Order::Little } else { Order::Big };
     octets[8..HEADER].copy_from_slice(&in_order(order, size));
     Some(octets)
@@ -204,6 +238,10 @@ mod tests {
         Head { version, order, wish, key: vec![b'k'; key], operation, contexts }
     }
 
+    fn request(head: &Head, id: u32, body: &Body) -> Option<Vec<u8>> {
+        Some([head_of_request(head, id, body)?, body.octets.clone()].concat())
+    }
+
     /// Whether it reads again as what it was made of.
     fn is_read(octets: &[u8], id: u32, body: &Body, contexts: &Contexts) -> bool {
         let mut assembler = Assembler::open(Limits::default()).unwrap();
@@ -226,7 +264,7 @@ mod tests {
                 .flat_map(|order| (0..64).map(move |n| (order, n / 8, n % 8)))
                 .map(|(order, key, place): (_, u8, u8)| (order, key.into(), place.into()))
             {
-                let body = Body { octets: b"abcdefg".to_vec(), place };
+                let body = Body::at(place, b"abcdefg".to_vec());
                 let head = head(version, order, key);
                 let made = request(&head, 9, &body);
                 if version == Version::V12 && place != 0 {
@@ -246,7 +284,7 @@ mod tests {
         let contexts = vec![(1, b"12345".to_vec())];
         for version in VERSIONS {
             for (order, place) in ORDERS.into_iter().flat_map(|order| [(order, 0), (order, 4)]) {
-                let body = Body { octets: b"abcdefg".to_vec(), place };
+                let body = Body::at(place, b"abcdefg".to_vec());
                 let made = reply(version, order, 7, 0, &contexts, &body);
                 if version == Version::V12 && place != 0 {
                     assert_eq!(made, None);
@@ -260,8 +298,7 @@ mod tests {
     #[test]
     fn what_has_no_body_stands_anywhere() {
         for version in VERSIONS {
-            let (head, body) =
-                (head(version, Order::Big, 3), Body { octets: Vec::new(), place: 3 });
+            let (head, body) = (head(version, Order::Big, 3), Body::at(3, Vec::new()));
             assert!(is_read(&request(&head, 1, &body).unwrap(), 1, &body, &head.contexts));
             let none = Contexts::new();
             assert!(is_read(
@@ -276,7 +313,7 @@ mod tests {
     #[test]
     fn a_message_has_sixteen_mebibytes_at_most() {
         for (size, is_made) in [(LONGEST - 24, true), (LONGEST - 23, false)] {
-            let body = Body { octets: vec![1; size], place: 0 };
+            let body = Body::at(0, vec![1; size]);
             let made = reply(Version::V12, Order::Big, 7, 0, &Contexts::new(), &body);
             assert_eq!(made.map(|octets| octets.len()), is_made.then_some(LONGEST));
         }
@@ -285,7 +322,7 @@ mod tests {
     #[test]
     fn a_request_is_what_the_standard_says() {
         let head = Head { contexts: Contexts::new(), ..head(Version::V12, Order::Big, 1) };
-        let body = Body { octets: vec![0, 0, 0, 7], place: 8 };
+        let body = Body::at(8, vec![0, 0, 0, 7]);
         let text = b"GIOP\x01\x02\0\0\0\0\0\x28\0\0\0\x05\x03\0\0\0\0\0\0\0\0\0\0\x01k\0\0\0\0\0\0\x04add\0\
             \0\0\0\0\0\0\0\0\0\0\0\x07";
         assert_eq!(request(&head, 5, &body).unwrap(), text);

@@ -1,9 +1,11 @@
 //! Requests and replies: from the messages that came, and what goes on of them.
 
 use crate::compose::{self, Body, Contexts, Head};
+use crate::mark::Meant;
 use crate::pool::{Places, Reply};
 use crate::reasons::Refusal;
 use crate::reference;
+use crate::sets;
 use crate::store::{Key, Outcome};
 use crate::wire;
 use lemonrudder::cdr::{Reader, Writer};
@@ -31,13 +33,17 @@ pub struct Ft {
     pub expiration: Moment,
 }
 
-/// A request as it came. Its service contexts are those that go on: without FT_REQUEST, and without
-/// BiDirIIOPServiceContext, since nobody hears here what its server would ask.
+/// A request as it came. Its service contexts are those that go on: without FT_REQUEST, without
+/// BiDirIIOPServiceContext, since nobody hears here what its server would ask, and without code sets
+/// that are none.
 #[derive(Clone, Debug, PartialEq, Eq)]
 pub struct Request {
     pub head: Head,
-    pub body: Body,
+    /// (Its connection to a server has it too, until it is sent.)
+    pub body: Arc<Body>,
     pub ft: Option<Ft>,
+    /// For which store it is meant.
+    pub meant: Meant,
 }
 
 /// What a request is answered.
@@ -55,6 +61,12 @@ fn is(status: u32, wanted: Status) -> bool {
     status == wanted.number()
 }
 
+/// Whether a reply of this status leads elsewhere.
+#[must_use]
+pub fn is_forward(status: u32) -> bool {
+    is(status, Status::LocationForward) || is(status, Status::LocationForwardPerm)
+}
+
 /// The request that a message is.
 ///
 /// # Errors
@@ -70,9 +82,10 @@ pub fn request_of(message: &mut Message<'_>) -> Result<Request, Refusal> {
         expiration: said.expiration,
     });
     if ft.as_ref().is_some_and(|ft| ft.key.client.len() > CLIENT) {
-        return Err(Refusal::FtRequest);
+        return Err(Refusal::Client);
     }
-    let contexts = contexts_of(message, ft.is_some())?;
+    let mut contexts = contexts_of(message, ft.is_some())?;
+    let meant = Meant::taken(&mut contexts);
     let Some(key) = message.key() else { return Err(Refusal::Addressing) };
     let head = Head {
         version: message.version(),
@@ -82,8 +95,8 @@ pub fn request_of(message: &mut Message<'_>) -> Result<Request, Refusal> {
         operation: message.operation().to_vec(),
         contexts,
     };
-    let body = Body { octets: message.body().to_vec(), place: message.place() };
-    Ok(Request { head, body, ft })
+    let body = Body::at(message.place(), message.body().to_vec());
+    Ok(Request { head, body: body.into(), ft, meant })
 }
 
 /// The service contexts of a request that go on, which has one of FT_REQUEST that is valid, or not.
@@ -96,7 +109,11 @@ fn contexts_of(message: &mut Message<'_>, is_keyed: bool) -> Result<Contexts, Re
     if !is_keyed && contexts.iter().any(|(id, _)| *id == FT_REQUEST) {
         return Err(Refusal::FtRequest);
     }
-    contexts.retain(|(id, _)| ![FT_REQUEST, BI_DIR_IIOP, compose::PADDING].contains(id));
+    contexts.retain(|(id, data)| match *id {
+        FT_REQUEST | BI_DIR_IIOP | compose::PADDING => false,
+        CODE_SETS => sets::read(data).is_some(),
+        _ => true,
+    });
     Ok(contexts)
 }
 
@@ -110,14 +127,14 @@ pub fn reply_of(message: &mut Message<'_>) -> Reply {
         status: message.status().map_or(0, Status::number),
         order: message.order(),
         contexts: contexts.into_iter().filter(|(id, _)| *id != compose::PADDING).collect(),
-        body: Body { octets: message.body().to_vec(), place: message.place() },
+        body: Body::at(message.place(), message.body().to_vec()),
     }
 }
 
 impl From<Outcome> for Answer {
     fn from(outcome: Outcome) -> Answer {
         let Outcome { status, order, place, body } = outcome;
-        let body = Body { octets: body, place: place.into() };
+        let body = Body::at(place.into(), body);
         Answer { status, order, contexts: Contexts::new(), body }
     }
 }
@@ -136,6 +153,12 @@ impl Answer {
         Outcome { status, order: Order::Big, place: 0, body: Vec::new() }.into()
     }
 
+    /// Whether it leads elsewhere, as an answer by which nothing is performed.
+    #[must_use]
+    pub fn is_forward(&self) -> bool {
+        is_forward(self.status)
+    }
+
     /// The outcome that it is. A body that means the same at each multiple of 4 has the place 0, so
     /// that it can stand in a Reply of any version: that of a system exception has nothing that is
     /// aligned to more than 4.
@@ -147,7 +170,7 @@ impl Answer {
 
     /// The place of the body of that outcome.
     fn place(&self) -> u8 {
-        let Body { octets, place } = &self.body;
+        let Body { octets, place, .. } = &self.body;
         let is_free = octets.len() <= 4 || is(self.status, Status::SystemException);
         let place = if is_free && place % 4 == 0 { 0 } else { place % 8 };
         u8::try_from(place).unwrap_or(0)
@@ -190,13 +213,13 @@ impl Guarded {
     /// Says why the server's reply can't be passed on: it leads elsewhere, or wants another
     /// addressing of its object. The server has not performed the request then.
     pub async fn told(&self, reply: Reply, found: SocketAddr) -> Result<Answer, String> {
-        let Reply { status, order, contexts, body } = reply;
-        let is_forward =
-            is(status, Status::LocationForward) || is(status, Status::LocationForwardPerm);
+        let Reply { status, order, mut contexts, body } = reply;
+        // (that of a guard which stands where a server does)
+        contexts.retain(|(id, _)| *id != compose::STORE);
         if is(status, Status::NeedsAddressingMode) {
             return Err("the server wants another addressing of its object".into());
         }
-        if !is_forward {
+        if !is_forward(status) {
             return Ok(Answer { status, order, contexts, body });
         }
         let body = Box::pin(self.led(order, &body, found)).await?;
@@ -217,7 +240,7 @@ impl Guarded {
             }
         }
         let (host, port) = self.published.first().unwrap_or(&here);
-        led(order, &reference::at(&text, host, *port)?)
+        led(order, &reference::at(&text, host, *port, false)?)
     }
 }
 
@@ -231,7 +254,8 @@ fn reference_in(order: Order, body: &Body) -> Result<(String, Vec<(String, u16)>
     let mut places = Vec::new();
     for profile in ior.profiles() {
         if let Some(address) = profile.map_err(said)?.address {
-            places.push((String::from_utf8_lossy(&address.host).into_owned(), address.port));
+            let port = reference::port_of(&address);
+            places.push((String::from_utf8_lossy(&address.host).into_owned(), port));
         }
     }
     if places.len() > PROFILES {
@@ -245,7 +269,7 @@ fn led(order: Order, text: &str) -> Result<Body, String> {
     let mut led: Ior = text.parse().map_err(said)?;
     let mut out = Writer::new(order);
     led.write(&mut out).map_err(said)?;
-    Ok(Body { octets: out.into_octets(), place: 0 })
+    Ok(Body::at(0, out.into_octets()))
 }
 
 #[cfg(test)]
@@ -276,13 +300,14 @@ mod tests {
     /// FT_REQUEST of the client `A`, its request 7, which expires at 258.
     const FT: &[u8] =
         b"\0\0\0\x0d\0\0\0\x18\0\0\0\0\0\0\0\x02A\0\0\0\0\0\0\x07\0\0\0\0\0\0\x01\x02";
-    const SETS: &[u8] = b"\0\0\0\x01\0\0\0\x04sets";
+    const SETS: &[u8] = b"\0\0\0\x01\0\0\0\x0c\0\0\0\0charwide";
+    const NO_SETS: &[u8] = b"\0\0\0\x01\0\0\0\x04sets";
     const BI_DIR: &[u8] = b"\0\0\0\x05\0\0\0\x04ends";
     const PADDED: &[u8] = b"\x4c\x52\0\0\0\0\0\x04\0\0\0\0";
 
     #[test]
     fn a_request_goes_on_without_what_is_of_its_connection() {
-        let sets = || vec![(CODE_SETS, b"sets".to_vec())];
+        let sets = || vec![(CODE_SETS, b"\0\0\0\0charwide".to_vec())];
         let key = Key { client: b"A".to_vec(), number: 7 };
         let ft = || Some(Ft { key: key.clone(), expiration: Moment(258) });
         for (parts, contexts, ft) in [
@@ -290,12 +315,14 @@ mod tests {
             (vec![FT], vec![], ft()),
             (vec![SETS, FT, BI_DIR], sets(), ft()),
             (vec![PADDED, SETS], sets(), None),
+            (vec![NO_SETS, FT], vec![], ft()),
+            (vec![NO_SETS, SETS], sets(), None),
         ] {
             let count = u8::try_from(parts.len()).unwrap();
             let request = of(&octets(count, &parts.concat()), request_of).unwrap();
             assert_eq!((request.head.contexts, request.ft), (contexts, ft));
             assert_eq!((request.head.key, request.head.operation), (b"k".to_vec(), b"f".to_vec()));
-            assert_eq!((request.body.octets, request.body.place % 8), (b"body".to_vec(), 0));
+            assert_eq!((&request.body.octets[..], request.body.place % 8), (&b"body"[..], 0));
         }
     }
 
@@ -308,7 +335,7 @@ mod tests {
     }
 
     fn answer(status: u32, octets: &[u8], place: u64) -> Answer {
-        let body = Body { octets: octets.to_vec(), place };
+        let body = Body::at(place, octets.to_vec());
         Answer { status, order: Order::Little, contexts: Contexts::new(), body }
     }
 
@@ -350,7 +377,7 @@ mod tests {
         let found: SocketAddr = "[::a1]:9".parse().unwrap();
         let forward = Status::LocationForward.number();
         let reply = |status, octets| {
-            let body = Body { octets, place: 24 };
+            let body = Body::at(24, octets);
             Reply { status, order: Order::Big, contexts: Contexts::new(), body }
         };
         // (the last is another spelling of ::b2)

@@ -1,13 +1,18 @@
 //! Messages of a stream that are longer than they may be: all but their beginnings is passed over, so
 //! that who waits for an answer can be told, and the stream goes on.
 
+use crate::cuts::Cuts;
+use lemonrudder::{Fault, Version};
 use std::collections::{HashMap, HashSet};
 
 /// How many octets a header has (CORBA 3.3 Part 2, 9.4.1), and one with a request id behind it.
 const HEADER: usize = 12;
 const WITH_ID: usize = HEADER + 4;
 /// The types of messages that are looked at.
+const REQUEST: u8 = 0;
 const REPLY: u8 = 1;
+const LOCATE_REQUEST: u8 = 3;
+const LOCATE_REPLY: u8 = 4;
 const FRAGMENT: u8 = 7;
 /// What is said of a message of 1.1 and 1.2 that more fragments follow.
 const MORE: u8 = 2;
@@ -15,6 +20,9 @@ const MORE: u8 = 2;
 const KEPT: usize = 1 << 16;
 /// Of how many messages fragments are passed over.
 const CUT: usize = 1024;
+/// How many octets of a frame are looked at: a header, and what stands before the flags of a Request of
+/// 1.0 and 1.1 that has no service contexts.
+const SEEN: usize = HEADER + 9;
 
 /// What was taken of a stream.
 #[derive(Debug, PartialEq, Eq)]
@@ -36,10 +44,25 @@ pub struct Frames {
     /// How many octets of a frame come, and behind those, how many that are passed over.
     left: usize,
     over: usize,
+    /// How long the message is, so far, that ends in the frame of which octets come.
+    whole: usize,
     /// How long the messages are whose fragments come, by their ids.
     partial: HashMap<u32, usize>,
+    /// The same of messages of which none is cut.
+    others: HashMap<u32, usize>,
     /// Those whose further fragments are passed over.
     cut: HashSet<u32>,
+    /// What was seen of the frame, and of the first frame of the message of 1.1 whose fragments come.
+    seen: Vec<u8>,
+    early: Vec<u8>,
+    /// The id of the message that the frame is a part of, where it is a part, whether that begins with
+    /// what was taken, and whether more fragments follow.
+    part: Option<u32>,
+    is_opening: bool,
+    has_more: bool,
+    /// Where the message of 1.1 is cut whose fragments come, and where the one was that ends here.
+    coming: Cuts,
+    cuts: Cuts,
     /// Whether the message that ends in this frame was cut there.
     is_cut: bool,
     /// Whether what was taken is a message, from its first octet to its last.
@@ -58,6 +81,63 @@ struct Head {
     id: u32,
 }
 
+/// The first octets of a message, the id of which is to be known.
+#[derive(Debug)]
+pub struct Beginning<'f>(&'f [u8]);
+
+impl Beginning<'_> {
+    /// Its version.
+    #[must_use]
+    pub fn version(&self) -> Version {
+        match self.0[5] {
+            0 => Version::V10,
+            1 => Version::V11,
+            _ => Version::V12,
+        }
+    }
+
+    /// Where its id stands: in 1.0 and 1.1 behind its service contexts, of which there are to be none.
+    fn place(&self) -> Option<usize> {
+        match self.0[5] {
+            2 => Some(HEADER),
+            _ if number_of(self.0, HEADER) == 0 => Some(HEADER + 4),
+            _ => None,
+        }
+    }
+
+    /// Its id, where that is known, and it may be of a type.
+    fn id(&self, kind: u8) -> Option<u32> {
+        let is_it = self.0[7] == kind || self.0[7] == FRAGMENT && self.0[5] == 2;
+        let at = self.place().filter(|at| is_it && self.0.len() >= at + 4)?;
+        Some(number_of(self.0, at))
+    }
+
+    #[must_use]
+    pub fn id_of_request(&self) -> Option<u32> {
+        self.id(REQUEST)
+    }
+
+    #[must_use]
+    pub fn id_of_reply(&self) -> Option<u32> {
+        self.id(REPLY)
+    }
+
+    /// Whether a Request may wish for a reply.
+    #[must_use]
+    pub fn may_wish(&self) -> bool {
+        let flags = self.place().and_then(|at| self.0.get(at + 4));
+        self.0[7] == FRAGMENT || flags != Some(&0)
+    }
+}
+
+impl Head {
+    /// The id of the message that it is a part of, if it is one of a part.
+    fn part(&self) -> Option<u32> {
+        let is_first = self.has_more && may_be_cut(self.kind);
+        (is_first || self.kind == FRAGMENT).then_some(self.id)
+    }
+}
+
 impl Frames {
     /// Frames of messages of at most so many octets.
     #[must_use]
@@ -67,8 +147,17 @@ impl Frames {
             held: Vec::new(),
             left: 0,
             over: 0,
+            whole: 0,
             partial: HashMap::new(),
+            others: HashMap::new(),
             cut: HashSet::new(),
+            seen: Vec::with_capacity(SEEN),
+            early: Vec::new(),
+            part: None,
+            is_opening: false,
+            has_more: false,
+            coming: Cuts::default(),
+            cuts: Cuts::default(),
             is_cut: false,
             is_whole: false,
             is_lost: false,
@@ -87,9 +176,71 @@ impl Frames {
         self.is_whole
     }
 
+    /// Whether octets of a frame are still to come.
+    #[must_use]
+    pub fn is_amid(&self) -> bool {
+        self.left + self.over > 0 || !self.held.is_empty()
+    }
+
+    /// How many octets have come of messages that are not whole.
+    #[must_use]
+    pub fn pending(&self) -> usize {
+        let last = if self.left > 0 { self.whole } else { 0 };
+        let all = last + self.partial.values().chain(self.others.values()).sum::<usize>();
+        self.held.len() + all.saturating_sub(self.left)
+    }
+
+    /// Forgets a message that is not whole, whose client sends no more of it.
+    pub fn forget(&mut self, id: u32) {
+        self.partial.remove(&id);
+        self.others.remove(&id);
+    }
+
+    /// The id of the message that what was taken is a part of, where that comes in fragments: 0 in 1.1,
+    /// where those follow one another.
+    #[must_use]
+    pub fn part(&self) -> Option<u32> {
+        self.part
+    }
+
+    /// Whether such a message begins with what was taken.
+    #[must_use]
+    pub fn is_opening(&self) -> bool {
+        self.is_opening
+    }
+
+    /// Whether it ends with what was taken.
+    #[must_use]
+    pub fn is_ended(&self) -> bool {
+        self.left == 0 && !self.has_more
+    }
+
+    /// Where the message of 1.1 was cut that what was taken completes.
+    #[must_use]
+    pub fn cuts(&self) -> &Cuts {
+        &self.cuts
+    }
+
+    /// Passes over what is still to come of the message that what was taken is of, where that is at
+    /// fault and the frames behind it are not. It answers what is known of that message.
+    pub fn gives_up(&mut self, fault: Option<Fault>) -> Option<Beginning<'_>> {
+        use Fault::{Body, MixedOrder, TooManyPartial, UnalignedFragment};
+        if !matches!(fault, Some(Body | MixedOrder | TooManyPartial | UnalignedFragment)) {
+            return None;
+        }
+        self.over += std::mem::take(&mut self.left);
+        if let Some(id) = self.part.filter(|_| self.has_more) {
+            self.partial.remove(&id);
+            self.cut.insert(id);
+        }
+        let is_early = self.seen.get(7) == Some(&FRAGMENT) && self.seen.get(5) != Some(&2);
+        let octets = if is_early { &self.early } else { &self.seen };
+        (self.cut.len() <= CUT && octets.len() > HEADER).then_some(Beginning(octets))
+    }
+
     /// Takes what comes next of a stream.
     pub fn take<'a>(&mut self, octets: &mut &'a [u8]) -> Taken<'a> {
-        self.is_whole = false;
+        (self.is_whole, self.is_opening) = (false, false);
         if self.is_lost {
             return Taken::Octets(std::mem::take(octets));
         }
@@ -107,7 +258,24 @@ impl Frames {
         *octets = rest;
         self.left -= taken.len();
         self.is_whole = is_first && self.left == 0;
+        self.sees(taken);
         Taken::Octets(taken)
+    }
+
+    /// Notes the first octets of a frame.
+    fn sees(&mut self, octets: &[u8]) {
+        self.seen.extend(octets.iter().take(SEEN - self.seen.len()));
+    }
+
+    /// Begins with another frame, which is a part of a message or is not.
+    fn turns(&mut self, part: Option<u32>, has_more: bool) {
+        let is_first = self.has_more && self.seen.get(7).is_some_and(|kind| *kind <= REPLY);
+        if is_first && self.seen.get(5) != Some(&2) {
+            self.early.clone_from(&self.seen);
+        }
+        self.seen.clear();
+        self.cuts.clear();
+        (self.part, self.has_more) = (part, has_more);
     }
 
     /// Begins with a frame whose header has come in one piece, where nothing is to be changed of it.
@@ -120,7 +288,9 @@ impl Frames {
             return false;
         }
         self.is_cut = false;
+        self.turns(None, false);
         self.left = size.unwrap_or(0);
+        self.whole = self.left;
         true
     }
 
@@ -137,9 +307,13 @@ impl Frames {
         self.is_cut = false;
         let Some(head) = head_of(&held) else {
             self.is_lost = true;
+            self.part = None;
             return Taken::Held(held);
         };
+        self.turns(head.part(), head.has_more);
+        self.sees(&held);
         self.left = head.size - held.len();
+        self.whole = if head.has_more { 0 } else { head.size };
         match self.length(&head) {
             None => {
                 (self.left, self.over) = (0, self.left);
@@ -149,6 +323,7 @@ impl Frames {
                 if length < head.size || self.is_cut {
                     self.left = length - held.len();
                     self.over = head.size - length;
+                    self.whole = self.whole.min(length);
                     set_length(&mut held, length);
                 }
                 Taken::Held(held)
@@ -166,10 +341,20 @@ impl Frames {
                 if head.has_more {
                     self.cut.insert(id);
                 }
+                (self.part, self.has_more) = (None, false);
                 Some(KEPT.min(self.longest))
             }
             ..=REPLY if head.has_more => {
+                self.is_opening = true;
                 self.partial.insert(id, size);
+                if head.version == 1 {
+                    self.coming.clear();
+                    self.coming.push(size);
+                }
+                Some(size)
+            }
+            LOCATE_REQUEST | LOCATE_REPLY if head.has_more => {
+                self.is_opening = true;
                 Some(size)
             }
             FRAGMENT if self.cut.contains(&id) => {
@@ -179,21 +364,46 @@ impl Frames {
                 None
             }
             FRAGMENT => Some(self.length_of_fragment(head)),
-            _ => Some(size),
+            _ => {
+                if head.has_more {
+                    self.others.insert(id, size);
+                }
+                Some(size)
+            }
         }
     }
 
     /// The same of a fragment. The one by which its message is too long becomes an empty one, the last.
     fn length_of_fragment(&mut self, head: &Head) -> usize {
         let least = if head.version == 2 { WITH_ID } else { HEADER };
-        let Some(whole) = self.partial.get_mut(&head.id) else { return head.size };
-        *whole += head.size - least;
-        self.is_cut = *whole > self.longest && self.cut.len() < CUT;
+        let Some(whole) = self.partial.get_mut(&head.id) else {
+            if let Some(whole) = self.others.get_mut(&head.id) {
+                *whole += head.size - least.min(head.size);
+                if !head.has_more {
+                    self.whole = *whole;
+                    self.others.remove(&head.id);
+                }
+            }
+            return head.size;
+        };
+        *whole += head.size.saturating_sub(least);
+        let whole = *whole;
+        let is_long = whole > self.longest || head.version == 1 && self.coming.are_most();
+        self.is_cut = is_long && self.cut.len() < CUT;
+        if head.version == 1 && head.has_more {
+            self.coming.push(whole);
+        }
         if self.is_cut && head.has_more {
             self.cut.insert(head.id);
         }
         if self.is_cut || !head.has_more {
+            self.whole = whole;
             self.partial.remove(&head.id);
+            self.has_more = false;
+            if head.version == 1 {
+                let coming = self.coming.take();
+                self.cuts = if self.is_cut { Cuts::default() } else { coming };
+            }
         }
         if self.is_cut {
             least
@@ -203,9 +413,14 @@ impl Frames {
     }
 }
 
+/// Whether messages of a type may come in fragments (9.4.9).
+fn may_be_cut(kind: u8) -> bool {
+    kind <= REPLY || [LOCATE_REQUEST, LOCATE_REPLY].contains(&kind)
+}
+
 /// Whether octets are the beginning of a frame that has an id which is looked at.
 fn has_id(octets: &[u8]) -> bool {
-    octets[5] == 2 && (octets[7] == FRAGMENT || octets[6] & MORE != 0 && octets[7] <= REPLY)
+    octets[5] == 2 && (octets[7] == FRAGMENT || octets[6] & MORE != 0 && may_be_cut(octets[7]))
 }
 
 /// How many octets say what is to be known of the frame of which some are held.
@@ -318,6 +533,34 @@ mod tests {
         for size in 1..whole.len() {
             assert!(!is_whole(&[&whole[..size]]) && !is_whole(&[&whole[..size], &whole[size..]]));
         }
+    }
+
+    #[test]
+    fn what_is_pending_is_known() {
+        let fragments = [message(2, 2, 0, b"\0\0\0\x05abcd"), message(2, 0, 7, b"\0\0\0\x05efgh")];
+        let (whole, long) = (message(2, 0, 0, &SHORT), message(2, 0, 0, &LONG));
+        let mut frames = Frames::new(LONGEST);
+        let mut pending = |octets: &[u8]| {
+            let mut octets = octets;
+            while !octets.is_empty() {
+                frames.take(&mut octets);
+            }
+            frames.pending()
+        };
+        // (of a fragment its header is none of what its message takes)
+        assert_eq!(
+            (pending(&whole[..9]), pending(&whole[9..39]), pending(&whole[39..])),
+            (9, 39, 0)
+        );
+        assert_eq!(
+            (pending(&fragments[0]), pending(&whole[..13]), pending(&whole[13..])),
+            (20, 33, 20)
+        );
+        assert_eq!((pending(&fragments[1][..18]), pending(&fragments[1][18..])), (22, 0));
+        assert_eq!((pending(&long[..20]), pending(&long[20..]), pending(b"")), (20, 0, 0));
+        assert_eq!(pending(&fragments[0]), 20);
+        frames.forget(5);
+        assert_eq!(frames.pending(), 0);
     }
 
     #[test]

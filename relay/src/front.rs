@@ -1,37 +1,46 @@
 //! The side of a relay to which clients connect: listeners, peers, and their messages.
 
 use crate::compose;
-use crate::forward::{self, Answer, Request, CODE_SETS};
+use crate::descriptors;
+use crate::forward::{Answer, Request};
 use crate::frames::Frames;
+use crate::heard::{heard, Cancelled, Cancels, Heard};
+use crate::joined::Joined;
+use crate::memory::{Account, Held, Memory, Owed, CONNECTION, REQUEST, SECURED};
 use crate::metrics::metrics;
 use crate::performers::{Job, Performers};
 use crate::points::point;
 use crate::reasons::{self, Refusal};
 use crate::settings;
+use crate::shares::{Most, Share, Shares, Tally};
 use crate::store::Key;
 use crate::timer::Timer;
 use crate::tls::Acceptor;
 use crate::wire::{self, locked, shown, Reading, Writing};
 use crate::workers::Workers;
-use lemonrudder::{
-    write, Assembler, Fault, Limits, LocateStatus, Message, MessageType, Version, Wish,
-};
-use std::collections::{BTreeMap, HashMap};
+use futures_util::future::abortable;
+use futures_util::poll;
+use lemonrudder::{write, Cuts, Fault, Limits, MessageType, Version};
+use std::collections::HashMap;
 use std::future::Future;
+use std::io::{self, ErrorKind};
 use std::net::{self, IpAddr, SocketAddr};
 use std::pin::pin;
 use std::sync::{Arc, Mutex};
+use std::task::Poll;
 use std::time::Duration;
 use tokio::io::{copy, sink, AsyncReadExt, AsyncWriteExt};
 use tokio::net::{TcpListener, TcpStream};
 use tokio::select;
-use tokio::sync::{mpsc, oneshot, watch, OwnedSemaphorePermit, Semaphore};
+use tokio::sync::{mpsc, watch, Semaphore};
 use tokio::task::{JoinHandle, JoinSet};
 use tokio::time::{sleep, timeout, Instant};
 use tracing::{info, warn};
 
 /// What is read and written at once: at first, and where there is so much.
 const SIZES: (usize, usize) = (1 << 12, 1 << 16);
+/// What is read at once at least of a peer that is heard.
+const LEAST: usize = 512;
 /// What a peer has to close at the end of its stream; and a pause where nobody can be accepted.
 const LINGER: Duration = Duration::from_secs(2);
 /// What arrived before the end is heard, until nothing comes for so long: nobody is told that a one
@@ -39,11 +48,10 @@ const LINGER: Duration = Duration::from_secs(2);
 const ARRIVED: Duration = Duration::from_millis(20);
 /// How many replies are due to a peer from which on it is not heard.
 const DUE: usize = 64;
-/// How many requests of a connection are under way at most.
-const REQUESTS: u16 = 256;
+/// How many requests of a connection are under way at most, but for those that a client id has.
+const REQUESTS: usize = 256;
 
 /// A client's connection.
-#[derive(Debug)]
 pub struct Peer {
     pub number: u64,
     pub address: SocketAddr,
@@ -51,6 +59,10 @@ pub struct Peer {
     pub found: SocketAddr,
     /// The names in the certificate that it showed.
     pub names: Vec<String>,
+    /// What it has of the places of requests under way.
+    pub share: Share,
+    /// What is held for it in memory.
+    pub account: Arc<Account>,
     /// Why requests of it were refused.
     refused: Mutex<Vec<Refusal>>,
 }
@@ -77,42 +89,19 @@ pub struct Asked {
     pub peer: Arc<Peer>,
     /// Its service contexts have the code sets of the connection, if any were said on it.
     pub request: Box<Request>,
+    /// What it takes of memory.
+    pub held: Held,
     /// What tells whether it is cancelled, where it may be: a request without FT_REQUEST.
     pub cancelled: Option<Cancelled>,
-}
-
-/// What tells whether a request is cancelled.
-pub struct Cancelled {
-    said: oneshot::Receiver<()>,
-    id: u32,
-    cancels: Cancels,
-}
-
-impl Cancelled {
-    /// A request of an id among those that may be cancelled.
-    fn of(cancels: &Cancels, id: u32) -> Cancelled {
-        let (cancel, said) = oneshot::channel();
-        locked(cancels).insert(id, cancel);
-        Cancelled { said, id, cancels: cancels.clone() }
-    }
-
-    /// Ends where the client sends a CancelRequest, and else never.
-    pub async fn is_said(&mut self) {
-        if (&mut self.said).await.is_err() {
-            std::future::pending::<()>().await;
-        }
-    }
-}
-
-impl Drop for Cancelled {
-    fn drop(&mut self) {
-        locked(&self.cancels).remove(&self.id);
-    }
 }
 
 /// What becomes of requests. Each is performed in a task of its own, which goes on where its client
 /// is lost.
 pub trait Role: Send + Sync + 'static {
+    /// Whether a request with FT_REQUEST has its place by its client id, and takes it when it is
+    /// performed: who waits for that doesn't keep others of its connection waiting.
+    const IS_BY_CLIENT: bool;
+
     /// What is answered, once it is there; none where no reply is wished. The timer is one that may
     /// be used for it.
     fn perform(
@@ -123,26 +112,28 @@ pub trait Role: Send + Sync + 'static {
 }
 
 /// What peers may take.
-#[derive(Clone, Debug)]
+#[derive(Clone)]
 pub struct Bounds {
     pub limits: settings::Limits,
-    /// How many requests are under way at most: who has more is not heard until one is answered.
-    pub requests: usize,
+    /// How many requests of one client id are under way at most.
+    pub share: usize,
+    /// What is held for peers.
+    pub memory: Arc<Memory>,
+    /// How many connections there may be to servers or guards.
+    pub lines: usize,
     /// How long what is under way has at the end.
     pub drain: Duration,
     /// How many threads serve connections.
     pub threads: usize,
 }
 
-/// The requests of a connection that may be cancelled, by their ids.
-type Cancels = Arc<Mutex<BTreeMap<u32, oneshot::Sender<()>>>>;
-
 /// What all connections share.
 struct Front<R> {
     performers: Arc<Performers<R>>,
     bounds: Bounds,
     tls: Option<Acceptor>,
-    requests: Arc<Semaphore>,
+    shares: Arc<Shares>,
+    under_way: Arc<Tally>,
     stop: watch::Receiver<bool>,
     addresses: Mutex<HashMap<IpAddr, usize>>,
 }
@@ -212,12 +203,13 @@ pub async fn serve<R: Role>(
     let workers = Workers::start(bounds.threads).map_err(|error| format!("threads: {error}"))?;
     let workers = Arc::new(workers);
     let (stopping, stopped) = watch::channel(false);
-    let requests = Arc::new(Semaphore::new(bounds.requests));
-    let (all, drain) = (u32::try_from(bounds.requests).unwrap_or(u32::MAX), bounds.drain);
-    let peers = Arc::new(Semaphore::new(bounds.limits.peers));
-    let (under_way, addresses) = (requests.clone(), Mutex::default());
-    let performers = Performers::new(role, bounds.threads);
-    let front = Front { performers, bounds, tls, requests: under_way, stop: stopped, addresses };
+    let (drain, limits) = (bounds.drain, &bounds.limits);
+    let most = Most { of_all: limits.parked, of_connection: REQUESTS, of_client: bounds.share };
+    let peers = descriptors::peers(limits.peers, bounds.lines);
+    let (peers, shares) = (Arc::new(Semaphore::new(peers)), Shares::new(most));
+    let (all, addresses) = (Arc::<Tally>::default(), Mutex::default());
+    let (performers, under_way) = (Performers::new(role, bounds.threads), all.clone());
+    let front = Front { performers, bounds, tls, shares, under_way, stop: stopped, addresses };
     let front = Arc::new(front);
     let mut accepting = JoinSet::new();
     for listener in listeners {
@@ -229,8 +221,8 @@ pub async fn serve<R: Role>(
     accepting.shutdown().await;
     _ = stopping.send(true);
     let ended = timeout(drain, async {
-        _ = requests.acquire_many(all).await;
         stopping.closed().await;
+        all.ends().await;
     });
     // (each connection has a receiver, and so has the front)
     drop(front);
@@ -293,8 +285,10 @@ impl From<&'static str> for End {
 /// Counts and says that a connection ended.
 fn ended(number: u64, address: SocketAddr, End(why, detail): &End) {
     metrics().ended.with_label_values(&[why]).inc();
-    let detail = detail.as_ref().map(tracing::field::display);
-    info!(number, peer = %address, why, detail, "connection ended");
+    match detail {
+        Some(detail) => warn!(number, peer = %address, why, %detail, "connection ended"),
+        None => info!(number, peer = %address, why, "connection ended"),
+    }
 }
 
 /// Attends to a connection, and answers why it ended.
@@ -312,13 +306,20 @@ async fn attends<R: Role>(
     let accepted = wire::accept(socket, front.tls.as_ref(), limits).await;
     let (stream, names) = match accepted {
         Ok(accepted) => accepted,
+        Err(error) if error.kind() == ErrorKind::UnexpectedEof => return "no handshake".into(),
         Err(error) => return End("no handshake", Some(error.to_string())),
     };
-    let peer = Arc::new(Peer { number, address, found, names, refused: Mutex::default() });
+    let (share, account) = (front.shares.share(address.ip()), front.bounds.memory.account());
+    let refused = Mutex::default();
+    let peer = Peer { number, address, found, names, share, account: account.clone(), refused };
     let (mut reading, writing) = stream.halves();
     let (due, dues) = mpsc::channel(DUE);
-    let mut writer = tokio::spawn(writes(writing, dues, limits.stalled));
-    let Some(mut talk) = Talk::of(front, peer, due) else { return Why::Memory.text().into() };
+    let (writing, ends) = abortable(writes(writing, dues, limits.stalled));
+    account.is_written_by(ends);
+    let mut writer = tokio::spawn(async { _ = writing.await });
+    let Some(mut talk) = Talk::of(front, peer.into(), due) else {
+        return Why::Memory.text().into();
+    };
     let why = talk.listens(&mut reading, &mut writer).await;
     if why.is_lost() {
         writer.abort();
@@ -336,17 +337,17 @@ fn limits_of(limits: &settings::Limits) -> Limits {
     let message = limits.message.min(compose::LONGEST);
     let partials = (limits.partial / message).clamp(1, 16);
     let number = |size| u32::try_from(size).unwrap_or(u32::MAX);
-    Limits { message: number(message), partials: number(partials) }
+    Limits { message: number(message), partials: number(partials), cuts: Cuts::Anywhere }
 }
 
 /// Writes what is due to a peer, until nothing can be any more.
-async fn writes(mut half: Writing, mut dues: mpsc::Receiver<Vec<u8>>, patience: Duration) {
-    while let Some(mut octets) = dues.recv().await {
-        while octets.len() < SIZES.1 {
+async fn writes(mut half: Writing, mut dues: mpsc::Receiver<Owed>, patience: Duration) {
+    while let Some(mut owed) = dues.recv().await {
+        while owed.octets.len() < SIZES.1 {
             let Ok(more) = dues.try_recv() else { break };
-            octets.extend(more);
+            owed.join(more);
         }
-        if !wire::writes(&mut half, &octets, patience).await {
+        if !wire::writes(&mut half, &owed.octets, patience).await {
             return;
         }
         point("answered");
@@ -356,10 +357,11 @@ async fn writes(mut half: Writing, mut dues: mpsc::Receiver<Vec<u8>>, patience: 
 
 /// Why a connection ends.
 #[derive(Clone, Copy, Debug, PartialEq, Eq)]
-enum Why {
+pub enum Why {
     Closed,
     Failed,
     Unwritten,
+    Owed,
     Idle,
     Goodbye,
     Error,
@@ -375,6 +377,7 @@ impl Why {
             Why::Closed => "the peer closed it",
             Why::Failed => "its socket failed",
             Why::Unwritten => "the peer takes nothing",
+            Why::Owed => "the peer takes too little of what is due",
             Why::Idle => "it was idle",
             Why::Goodbye => "the peer said CloseConnection",
             Why::Error => "the peer said MessageError",
@@ -387,7 +390,7 @@ impl Why {
 
     /// Whether nothing can be sent any more.
     fn is_lost(self) -> bool {
-        matches!(self, Why::Failed | Why::Unwritten)
+        matches!(self, Why::Failed | Why::Unwritten | Why::Owed)
     }
 }
 
@@ -396,55 +399,68 @@ struct Talk<R> {
     front: Arc<Front<R>>,
     peer: Arc<Peer>,
     frames: Frames,
-    assembler: Assembler,
+    joined: Joined,
     /// The code sets that were said on it.
     sets: Option<Vec<u8>>,
     cancels: Cancels,
-    under_way: Arc<Semaphore>,
-    due: mpsc::Sender<Vec<u8>>,
+    under_way: Arc<Tally>,
+    due: mpsc::Sender<Owed>,
     /// When the last message was whole.
     heard: Instant,
-}
-
-/// What a message wants.
-enum Heard {
-    Performed(Box<Request>, u32),
-    Refused(Refusal, Version, u32, bool),
-    Answered(Vec<u8>),
-    Nothing,
+    /// What of it is held beside requests and replies, what it takes itself, and since when it holds
+    /// too much.
+    held: (Held, Held),
+    over: Option<Instant>,
+    /// Whether a message came that takes much, also once it is heard.
+    was_long: bool,
 }
 
 impl<R: Role> Talk<R> {
     /// One that begins, unless memory is short.
-    fn of(front: &Arc<Front<R>>, peer: Arc<Peer>, due: mpsc::Sender<Vec<u8>>) -> Option<Talk<R>> {
-        let limits = &front.bounds.limits;
+    fn of(front: &Arc<Front<R>>, peer: Arc<Peer>, due: mpsc::Sender<Owed>) -> Option<Talk<R>> {
+        let (limits, bounds) = (&front.bounds.limits, &front.bounds);
+        if peer.account.is_over() {
+            return None;
+        }
+        let itself = if front.tls.is_some() { SECURED } else { CONNECTION };
+        let itself = bounds.memory.account().hold(itself);
+        let held = (peer.account.hold(SIZES.0), itself);
         Some(Talk {
             front: front.clone(),
             peer,
             frames: Frames::new(limits.message.min(compose::LONGEST)),
-            assembler: Assembler::open(limits_of(limits)).ok()?,
+            joined: Joined::open(limits_of(limits)).ok()?,
             sets: None,
             cancels: Cancels::default(),
-            under_way: Arc::new(Semaphore::new(REQUESTS.into())),
+            under_way: Arc::default(),
             due,
             heard: Instant::now(),
+            held,
+            over: None,
+            was_long: false,
         })
     }
 
     /// Hears a peer until the connection ends.
     async fn listens(&mut self, half: &mut Reading, writer: &mut JoinHandle<()>) -> Why {
         let (mut stop, stops) = (self.front.stop.clone(), self.front.stop.clone());
-        let idle = self.front.bounds.limits.idle;
+        let (idle, account) = (self.front.bounds.limits.idle, self.peer.account.clone());
         let (mut stopped, mut quiet) = (pin!(stop.changed()), pin!(sleep(idle)));
         let mut room = vec![0; SIZES.0];
         loop {
             // (it changes once, where all is to stop)
             let is_stopped = !matches!(stops.has_changed(), Ok(false));
-            let reading = half.read(&mut room);
+            let over = match self.over(is_stopped) {
+                Ok(over) => over,
+                Err(why) => return why,
+            };
+            let most = account.left().clamp(LEAST, room.len());
+            let reading = reads(half, &mut room, most);
             let read = select! {
                 biased;
-                _ = &mut *writer => return Why::Unwritten,
-                read = within(is_stopped.then_some(ARRIVED), reading) => read,
+                _ = &mut *writer => return self.unwritten(),
+                () = account.less(over.unwrap_or_default()), if over.is_some() => continue,
+                read = within(is_stopped.then_some(ARRIVED), reading), if over.is_none() => read,
                 _ = &mut stopped, if !is_stopped => continue,
                 () = &mut quiet => match self.rests(idle) {
                     None => return Why::Idle,
@@ -463,11 +479,50 @@ impl<R: Role> Talk<R> {
             if let Err(why) = self.takes(&room[..size]).await {
                 return why;
             }
-            if size == room.len() {
-                room.resize(SIZES.1, 0);
-            } else if size < SIZES.0 / 2 && room.len() > SIZES.0 {
-                room = vec![0; SIZES.0];
-            }
+            self.fits(&mut room, size);
+        }
+    }
+
+    /// Has room for what may come behind so many octets, and gives back what a long message took,
+    /// where nothing has come behind that.
+    fn fits(&mut self, room: &mut Vec<u8>, size: usize) {
+        if size == room.len() && self.peer.account.left() > 2 * SIZES.1 {
+            room.resize(SIZES.1, 0);
+        } else if size < SIZES.0 / 2 && room.len() > SIZES.0 {
+            *room = vec![0; SIZES.0];
+        }
+        let pending = self.frames.pending();
+        self.held.0.set(room.len() + pending);
+        if pending > 0 || !self.was_long {
+            return;
+        }
+        if let Ok(joined) = Joined::open(limits_of(&self.front.bounds.limits)) {
+            (self.joined, self.was_long) = (joined, false);
+        }
+    }
+
+    /// For how long it is not heard by now since too much is held for it; an error where it has nothing
+    /// but what never gets whole so.
+    fn over(&mut self, is_stopped: bool) -> Result<Option<Duration>, Why> {
+        if !self.peer.account.is_over() {
+            self.over = None;
+            return Ok(None);
+        }
+        let over = self.over.get_or_insert_with(Instant::now).elapsed();
+        let is_long = over > self.front.bounds.limits.stalled;
+        match (is_stopped, is_long && self.peer.account.holds(&self.held.0)) {
+            (true, _) => Err(Why::Stop),
+            (_, true) => Err(Why::Memory),
+            _ => Ok(Some(over)),
+        }
+    }
+
+    /// Why nothing is written any more.
+    fn unwritten(&self) -> Why {
+        if self.peer.account.owed_much() {
+            Why::Owed
+        } else {
+            Why::Unwritten
         }
     }
 
@@ -475,7 +530,7 @@ impl<R: Role> Talk<R> {
     fn rests(&mut self, idle: Duration) -> Option<Instant> {
         let now = Instant::now();
         if self.heard + idle <= now {
-            if self.under_way.available_permits() == usize::from(REQUESTS) {
+            if self.under_way.is_none() {
                 return None;
             }
             self.heard = now;
@@ -496,27 +551,52 @@ impl<R: Role> Talk<R> {
     async fn hears(&mut self, mut octets: &[u8]) -> Result<(), Why> {
         let whole = if self.frames.is_whole() { octets } else { &[] };
         while !octets.is_empty() {
-            let fed = self.assembler.feed(octets);
-            let fed = fed.map_err(|_| Why::Fault(self.assembler.fault()))?;
+            let fed = match self.joined.feed(&self.frames, octets) {
+                Ok(fed) => fed,
+                Err(fault) => return self.fails(fault).await,
+            };
             octets = &octets[fed..];
-            let heard = match self.assembler.message_in(whole) {
+            let heard = match self.joined.message_in(whole) {
                 Ok(Some(mut message)) => {
                     self.heard = Instant::now();
                     let is_long = self.frames.is_cut();
+                    self.was_long |= message.body().len() > SIZES.1;
+                    if message.message_type() == MessageType::CancelRequest {
+                        self.frames.forget(message.request_id());
+                    }
                     heard(&mut message, is_long, &mut self.sets, &self.cancels)?
                 }
                 Ok(None) => Heard::Nothing,
                 Err(_) => return Err(Why::Memory),
             };
             match heard {
-                Heard::Performed(request, id) => self.performs(request, id).await,
+                Heard::Performed(mut request, id) => {
+                    let body = Arc::make_mut(&mut request.body);
+                    body.cuts = self.frames.cuts().behind(body.place);
+                    self.performs(request, id).await;
+                }
+                Heard::Cancelled(id) => self.joined.forget(id),
                 Heard::Refused(refusal, version, id, is_wished) => {
                     self.refuses(refusal, version, id, is_wished).await;
                 }
-                Heard::Answered(octets) => _ = self.due.send(octets).await,
+                Heard::Answered(octets) => self.owes(octets).await,
                 Heard::Nothing => {}
             }
         }
+        Ok(())
+    }
+
+    /// Refuses the request of a message that is at fault, where it is known which that is; else the
+    /// connection ends.
+    async fn fails(&mut self, fault: Option<Fault>) -> Result<(), Why> {
+        let message = self.frames.gives_up(fault);
+        let known = message.and_then(|it| Some((it.id_of_request()?, it.version(), it.may_wish())));
+        let (id, version, may_wish) = known.ok_or(Why::Fault(fault))?;
+        let refusal = match fault {
+            Some(Fault::TooManyPartial) => Refusal::Partial,
+            _ => Refusal::Unread,
+        };
+        self.refuses(refusal, version, id, may_wish).await;
         Ok(())
     }
 
@@ -524,46 +604,51 @@ impl<R: Role> Talk<R> {
     async fn refuses(&mut self, refusal: Refusal, version: Version, id: u32, is_wished: bool) {
         let answer = self.peer.refuses(refusal, None);
         if is_wished {
-            _ = self.due.send(answer.reply(version, id)).await;
+            self.owes(answer.reply(version, id)).await;
         }
+    }
+
+    /// Has octets written, behind those that are due.
+    async fn owes(&mut self, octets: Vec<u8>) {
+        _ = self.due.send(self.peer.account.owes(octets)).await;
     }
 
     /// Has a request performed, once there is room for one more.
     async fn performs(&mut self, request: Box<Request>, id: u32) {
-        let (Some(own), Some(any)) =
-            (place_of(&self.under_way).await, place_of(&self.front.requests).await)
-        else {
-            return;
-        };
+        let is_one = (self.under_way.one(), self.front.under_way.one());
+        let is_by_client = R::IS_BY_CLIENT && request.ft.is_some();
+        let place = if is_by_client { None } else { self.peer.share.place().await };
         let cancelled = request.ft.is_none().then(|| Cancelled::of(&self.cancels, id));
         let (version, wish) = (request.head.version, request.head.wish);
-        let asked = Asked { peer: self.peer.clone(), request, cancelled };
-        let (due, places) = (self.due.clone(), (own, any));
-        self.front.performers.perform(Job { asked, version, wish, id, due, places });
+        let held =
+            self.peer.account.hold(REQUEST + request.head.key.len() + request.body.octets.len());
+        let asked = Asked { peer: self.peer.clone(), request, held, cancelled };
+        let due = self.due.clone();
+        self.front.performers.perform(Job { asked, version, wish, id, due, place, is_one });
     }
 
     /// Ends a connection: what is under way is answered first, where the peer can hear that.
-    async fn parts(self, why: Why) {
+    async fn parts(mut self, why: Why) {
         let last = match why {
             Why::Fault(_) | Why::Direction => write::message_error(),
             Why::Idle | Why::Stop => {
-                _ = self.under_way.acquire_many(REQUESTS.into()).await;
+                self.under_way.ends().await;
                 write::close_connection()
             }
             _ => return,
         };
         if let Ok(octets) = last {
-            _ = self.due.send(octets).await;
+            self.owes(octets).await;
         }
     }
 }
 
-/// A place of some, once there is one.
-async fn place_of(places: &Arc<Semaphore>) -> Option<OwnedSemaphorePermit> {
-    match places.clone().try_acquire_owned() {
-        Ok(place) => Some(place),
-        Err(_) => places.clone().acquire_owned().await.ok(),
+/// Reads what has come, of so much at most; or else, of little, what comes.
+async fn reads(half: &mut Reading, room: &mut [u8], most: usize) -> io::Result<usize> {
+    if let Poll::Ready(read) = poll!(pin!(half.read(&mut room[..most]))) {
+        return read;
     }
+    half.read(&mut room[..most.min(SIZES.0)]).await
 }
 
 /// What comes of a future, within a time where one is given.
@@ -572,55 +657,4 @@ async fn within<T>(time: Option<Duration>, future: impl Future<Output = T>) -> O
         None => Some(future.await),
         Some(time) => timeout(time, future).await.ok(),
     }
-}
-
-/// What a message means that came on a connection.
-fn heard(
-    message: &mut Message<'_>,
-    is_long: bool,
-    sets: &mut Option<Vec<u8>>,
-    cancels: &Cancels,
-) -> Result<Heard, Why> {
-    let id = message.request_id();
-    Ok(match message.message_type() {
-        MessageType::Request => asked(message, is_long, sets),
-        MessageType::LocateRequest => {
-            let (version, order) = (message.version(), message.order());
-            let here = write::locate_reply(version, order, id, LocateStatus::ObjectHere);
-            Heard::Answered(here.map_err(|_| Why::Memory)?)
-        }
-        MessageType::CancelRequest => {
-            if let Some(cancel) = locked(cancels).remove(&id) {
-                _ = cancel.send(());
-            }
-            Heard::Nothing
-        }
-        MessageType::CloseConnection => return Err(Why::Goodbye),
-        MessageType::MessageError => return Err(Why::Error),
-        MessageType::Fragment => Heard::Nothing,
-        MessageType::Reply | MessageType::LocateReply => return Err(Why::Direction),
-    })
-}
-
-/// What a Request means.
-fn asked(message: &mut Message<'_>, is_long: bool, sets: &mut Option<Vec<u8>>) -> Heard {
-    let (id, version) = (message.request_id(), message.version());
-    let request = if is_long { Err(Refusal::Long) } else { forward::request_of(message) };
-    let mut request = match request {
-        Ok(request) => request,
-        Err(refusal) => {
-            let is_wished = message.wish() != Some(Wish::None);
-            return Heard::Refused(refusal, version, id, is_wished);
-        }
-    };
-    let contexts = &mut request.head.contexts;
-    match contexts.iter().find(|(id, _)| *id == CODE_SETS) {
-        Some((_, data)) => *sets = Some(data.clone()),
-        // (GIOP 1.0 has none)
-        None if version != Version::V10 => {
-            contexts.extend(sets.clone().map(|data| (CODE_SETS, data)))
-        }
-        None => {}
-    }
-    Heard::Performed(Box::new(request), id)
 }

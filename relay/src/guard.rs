@@ -1,24 +1,23 @@
 //! The role of who stands before servers: a request that comes again is answered by the outcome of
 //! its first.
 
-use crate::access::Clients;
-use crate::forward::{Answer, Ft, Guarded};
+use crate::access::{Clients, Wanted};
+use crate::compose::Contexts;
+use crate::forward::{is_forward, Answer, Ft, Guarded};
 use crate::front::{self, Asked, Role};
+use crate::mark::{Meant, Told};
 use crate::metrics::{self, metrics, Trouble};
 use crate::points::point;
-use crate::pool::{Loss, Places, Pool, Reply, UNWRITTEN};
+use crate::pool::{Loss, Places, Pool, Reply, Terms, UNWRITTEN};
 use crate::reasons::Refusal;
+use crate::reload::{Files, Reload};
 use crate::store::{Begun, Key, Outcome, Store};
 use crate::timer::{after, Timer};
-use crate::tls::Acceptor;
-use crate::wire::{self, locked, shown};
+use crate::wire::{self, shown};
 use crate::{reference, settings};
 use lemonrudder::{Completed, Moment, Status};
-use std::collections::HashMap;
-use std::net::SocketAddr;
 use std::path::PathBuf;
-use std::sync::atomic::{AtomicUsize, Ordering};
-use std::sync::{Arc, Mutex};
+use std::sync::{Arc, PoisonError, RwLock, RwLockReadGuard};
 use std::time::Duration;
 use tokio::select;
 use tokio::time::sleep;
@@ -28,8 +27,8 @@ use tracing::warn;
 /// 1, 8.4.2): nothing was sent, and nothing is kept.
 pub const DECLINED: u32 = 0xffff_f001;
 
-/// How many clients are known at least, though nothing is under way of them.
-const CLIENTS: usize = 1024;
+/// How long a request waits for its share, before it is declined.
+const TURN: Duration = Duration::from_secs(1);
 
 /// How often what expired is taken out of the store.
 const PURGE: Duration = Duration::from_secs(10);
@@ -61,11 +60,10 @@ pub struct Guard {
     guarded: Guarded,
     /// How long a server may take for a request.
     timeout: Duration,
-    shares: Shares,
     /// How long an outcome is kept at most.
     keep: Option<Duration>,
-    /// Which client ids peers may use.
-    access: Option<Clients>,
+    /// What peers may ask for.
+    access: Option<Arc<RwLock<Clients>>>,
 }
 
 /// Stands before servers until the program is to end.
@@ -74,15 +72,20 @@ pub struct Guard {
 ///
 /// Says why it can't begin.
 pub async fn run(settings: settings::Guard) -> Result<(), String> {
+    let reload = Reload::begin()?;
+    let files = Files::of_guard(&settings).map_err(|faults| faults.join("\n"))?;
+    let (tls, connector, access) =
+        (files.acceptor.clone(), files.connector.clone(), files.access.clone());
+    tokio::spawn(reload.runs(files));
     let settings::Guard { common, server, reference, share, .. } = settings;
-    let tls = Acceptor::open(&common.tls)?;
-    let access = settings.clients.as_deref().map(Clients::read).transpose();
-    let access = access.map_err(|faults| faults.join("\n"))?;
+    let bounds = common.bounds(share, 1);
     let store =
         Store::open(&settings.store, settings.lease).await.map_err(|error| error.to_string())?;
+    store.holds(bounds.memory.account());
     let listeners = front::listen(&common.listen).await?;
     let servers = Servers { addresses: server, references: reference };
-    let pool = Pool::new(Box::new(servers.clone()), common.terms(UNWRITTEN, &listeners));
+    let terms = Terms { tls: connector, ..common.terms(UNWRITTEN, &listeners) };
+    let pool = Pool::new(Box::new(servers.clone()), terms);
     let guard = Arc::new(Guard {
         store,
         pool,
@@ -92,7 +95,6 @@ pub async fn run(settings: settings::Guard) -> Result<(), String> {
             servers: Arc::new(servers),
         },
         timeout: common.timeout,
-        shares: Shares { share, clients: Mutex::default() },
         keep: settings.keep,
         access,
     });
@@ -105,7 +107,6 @@ pub async fn run(settings: settings::Guard) -> Result<(), String> {
         metrics::listen(address, ready).await?;
     }
     let purging = tokio::spawn(purges(guard.clone()));
-    let bounds = common.bounds(settings.parked);
     let served = front::serve(guard.clone(), listeners, tls, bounds, wire::ended()).await;
     purging.abort();
     guard.store.close().await;
@@ -122,58 +123,12 @@ async fn purges(guard: Arc<Guard>) {
     }
 }
 
-/// How many requests are under way of each client id, and how many may be.
-struct Shares {
-    share: usize,
-    clients: Mutex<Counts>,
-}
-
-/// Counts of clients, and how many there may be before those are taken out of whom nothing is under
-/// way.
-#[derive(Default)]
-struct Counts {
-    counts: HashMap<Vec<u8>, Arc<AtomicUsize>>,
-    most: usize,
-}
-
-/// A request's place in the share of its client.
-struct Held(Arc<AtomicUsize>);
-
-impl Shares {
-    /// A place in the share of a client, if there is one left.
-    fn hold(&self, client: &[u8]) -> Option<Held> {
-        let mut clients = locked(&self.clients);
-        let Counts { counts, most } = &mut *clients;
-        if let Some(count) = counts.get(client) {
-            let is_left = count.load(Ordering::Relaxed) < self.share;
-            return is_left.then(|| Held::of(count));
-        }
-        if counts.len() >= *most {
-            counts.retain(|_, count| count.load(Ordering::Relaxed) > 0);
-            *most = (2 * counts.len()).max(CLIENTS);
-        }
-        Some(Held::of(counts.entry(client.to_vec()).or_default()))
-    }
-}
-
-impl Held {
-    /// One more of a client, whose count is locked against others.
-    fn of(count: &Arc<AtomicUsize>) -> Held {
-        count.fetch_add(1, Ordering::Relaxed);
-        Held(count.clone())
-    }
-}
-
-impl Drop for Held {
-    fn drop(&mut self) {
-        self.0.fetch_sub(1, Ordering::Relaxed);
-    }
-}
-
 /// What came of a request that was to be sent to a server.
 enum Sent {
-    /// What it is answered, and whether that is the server's reply.
+    /// What it is answered.
     Done(Answer),
+    /// The server forwards it: it has not performed it (CORBA 3.3 Part 2, 9.4.3.2).
+    Led(Answer),
     /// Nobody knows what became of it.
     Maybe(&'static str),
     /// The server has not got it.
@@ -183,11 +138,13 @@ enum Sent {
 }
 
 impl Role for Guard {
+    const IS_BY_CLIENT: bool = true;
+
     async fn perform(&self, mut asked: Asked, timer: &mut Timer) -> Option<Answer> {
         let _parked = metrics().park();
         if let Some(ft) = asked.request.ft.take() {
             metrics().keyed.inc();
-            Some(self.keyed(&mut asked, &ft, timer).await)
+            Some(self.answers(&mut asked, &ft, timer).await)
         } else {
             metrics().free.inc();
             self.free(&mut asked, timer).await
@@ -207,8 +164,11 @@ impl Guard {
 
     /// Performs a request without FT_REQUEST.
     async fn free(&self, asked: &mut Asked, timer: &mut Timer) -> Option<Answer> {
-        match self.sends(asked, timer).await {
-            Sent::Done(answer) => Some(answer),
+        if let Some(refusal) = self.stranger(asked, None) {
+            return Some(asked.peer.refuses(refusal, None));
+        }
+        match self.sends_allowed(asked, None, timer).await {
+            Sent::Done(answer) | Sent::Led(answer) => Some(answer),
             Sent::Maybe(name) => {
                 metrics().maybe.inc();
                 let (number, peer) = (asked.peer.number, asked.peer.address);
@@ -221,43 +181,134 @@ impl Guard {
         }
     }
 
+    /// What a request with FT_REQUEST is answered, and told of the store, where it asks for that.
+    async fn answers(&self, asked: &mut Asked, ft: &Ft, timer: &mut Timer) -> Answer {
+        let (mut answer, is_void) = match self.keyed(asked, ft, timer).await {
+            Ok(answer) => {
+                let is_forward = answer.is_forward();
+                (answer, is_forward)
+            }
+            // (who asks for the store is no sign of anything)
+            Err(Refusal::Elsewhere) if asked.request.meant == Meant::Asks => {
+                (Refusal::Elsewhere.answer(), true)
+            }
+            Err(refusal) => (asked.peer.refuses(refusal, Some(&ft.key)), refusal.is_void()),
+        };
+        if asked.request.meant != Meant::Any {
+            let told = self.store.mark().map(|mark| Told { mark, is_void }.said());
+            answer.contexts.extend(told);
+        }
+        answer
+    }
+
     /// Performs a request with FT_REQUEST, or answers what became of it.
-    async fn keyed(&self, asked: &mut Asked, ft: &Ft, timer: &mut Timer) -> Answer {
+    async fn keyed(
+        &self,
+        asked: &mut Asked,
+        ft: &Ft,
+        timer: &mut Timer,
+    ) -> Result<Answer, Refusal> {
+        self.judges(asked, ft)?;
         let peer = asked.peer.clone();
-        let refused = |refusal| peer.refuses(refusal, Some(&ft.key));
-        if self.access.as_ref().is_some_and(|it| !it.may(&peer.names, &ft.key.client)) {
-            return refused(Refusal::Stranger);
-        }
-        let now = Moment::now();
-        if ft.expiration < now {
-            return refused(Refusal::Expired);
-        }
-        if self.keep.is_some_and(|keep| ft.expiration > now + keep) {
-            return refused(Refusal::Keep);
-        }
-        let Some(_held) = self.shares.hold(&ft.key.client) else { return refused(Refusal::Share) };
+        let place = timer.until(after(TURN), peer.share.place_of(&ft.key.client)).await;
+        let _place = place.flatten().ok_or(Refusal::Share)?;
         point("before-begin");
-        match self.store.begin(&ft.key, ft.expiration.0).await {
-            Ok(Begun::New) => {}
-            Ok(Begun::Done { outcome, is_ours }) => return repeated(&ft.key, outcome, is_ours),
-            Ok(Begun::Expired) => return refused(Refusal::Expired),
-            // (why it is away is in the log, once)
-            Err(_) => return refused(Refusal::Store),
+        if let Some(answer) = self.begins(asked, ft).await? {
+            return Ok(answer);
         }
         point("begun");
-        let answer = match self.sends(asked, timer).await {
+        let answer = match self.sends_allowed(asked, Some(&ft.key.client), timer).await {
             Sent::Done(answer) => answer,
+            Sent::Led(answer) => {
+                // (it is no outcome: who follows it sends the same key, and that acts)
+                point("led");
+                _ = self.store.undo(&ft.key).await;
+                point("undone");
+                return Ok(answer);
+            }
             Sent::Maybe(name) => Answer::system(name, 0, Completed::Maybe),
             Sent::Not(refusal) => {
                 _ = self.store.undo(&ft.key).await;
-                return refused(refusal);
+                return Err(refusal);
             }
             Sent::Cancelled => Outcome::maybe().into(),
         };
         point("received");
+        // (its outcome is held beside it, until that is kept)
+        asked.held.add(answer.body.octets.len());
         let answer = self.finishes(&ft.key, answer).await;
         point("finished");
-        answer.unwrap_or_else(|| refused(Refusal::Forgotten))
+        answer.ok_or(Refusal::Forgotten)
+    }
+
+    /// Begins a request, or finds what it was answered.
+    async fn begins(&self, asked: &Asked, ft: &Ft) -> Result<Option<Answer>, Refusal> {
+        match self.store.begin(&ft.key, ft.expiration.0).await {
+            Ok(Begun::New) => {}
+            Ok(Begun::Done { outcome, is_ours }) => {
+                return Ok(Some(repeated(&ft.key, outcome, is_ours)));
+            }
+            Ok(Begun::Expired) => return Err(Refusal::Expired),
+            // (why it is away is in the log, once)
+            Err(_) => return Err(Refusal::Store),
+        }
+        if let Err(refusal) = self.is_meant(asked) {
+            // (it was another one until now, as where a database was taken over by its standby)
+            _ = self.store.undo(&ft.key).await;
+            return Err(refusal);
+        }
+        Ok(None)
+    }
+
+    /// Whether a request with FT_REQUEST may be begun, as far as the store need not be asked.
+    fn judges(&self, asked: &Asked, ft: &Ft) -> Result<(), Refusal> {
+        if let Some(refusal) = self.stranger(asked, Some(&ft.key.client)) {
+            return Err(refusal);
+        }
+        let now = Moment::now();
+        if ft.expiration < now {
+            return Err(Refusal::Expired);
+        }
+        if self.keep.is_some_and(|keep| ft.expiration > now + keep) {
+            return Err(Refusal::Keep);
+        }
+        self.is_meant(asked)
+    }
+
+    /// Whether a request is meant for this guard's store.
+    fn is_meant(&self, asked: &Asked) -> Result<(), Refusal> {
+        let meant = &asked.request.meant;
+        if *meant == Meant::Any {
+            return Ok(());
+        }
+        let mark = self.store.mark().ok_or(Refusal::Store)?;
+        meant.is_for(&mark).then_some(()).ok_or(Refusal::Elsewhere)
+    }
+
+    /// What peers may ask for by now.
+    fn access(&self) -> Option<RwLockReadGuard<'_, Clients>> {
+        Some(self.access.as_ref()?.read().unwrap_or_else(PoisonError::into_inner))
+    }
+
+    /// Why nothing of this client id is heard from a peer, or nothing without one.
+    fn stranger(&self, asked: &Asked, client: Option<&[u8]>) -> Option<Refusal> {
+        self.access()?.stranger(&asked.peer.names, client)
+    }
+
+    /// Sends a request, where it is for its peer's certificate. One with a key has no outcome by now:
+    /// it might have one of before it was forbidden.
+    async fn sends_allowed(
+        &self,
+        asked: &mut Asked,
+        client: Option<&[u8]>,
+        timer: &mut Timer,
+    ) -> Sent {
+        let head = &asked.request.head;
+        let wanted = Wanted { client, object: &head.key, operation: &head.operation };
+        if self.access().is_some_and(|access| !access.may(&asked.peer.names, &wanted)) {
+            return Sent::Not(Refusal::Forbidden);
+        }
+        self.sends(asked, timer).await
     }
 
     /// Keeps what a request is answered, and answers what is kept; nothing where it has expired and
@@ -280,7 +331,8 @@ impl Guard {
     }
 
     async fn sends_once(&self, asked: &mut Asked, timer: &mut Timer) -> Sent {
-        let mut pending = match self.pool.send(&asked.request.head, &asked.request.body).await {
+        let (request, from) = (&asked.request, asked.peer.address.ip());
+        let mut pending = match self.pool.send(&request.head, &request.body, from).await {
             Ok(pending) => pending,
             Err(loss) => return lost(loss),
         };
@@ -297,31 +349,46 @@ impl Guard {
             },
         };
         match ended {
-            Some(Ok(Some(reply))) => self.told(reply, asked.peer.found).await,
+            Some(Ok(Some(reply))) => {
+                asked.held.add(reply.body.octets.len());
+                self.told(reply, asked).await
+            }
             Some(Ok(None)) => Sent::Done(Answer::nothing()),
             Some(Err(loss)) => lost(loss),
-            None => Sent::Maybe("TIMEOUT"),
+            None => {
+                pending.expired();
+                Sent::Maybe("TIMEOUT")
+            }
         }
     }
 
-    /// What is told of a server's reply.
-    async fn told(&self, reply: Reply, found: SocketAddr) -> Sent {
-        self.guarded.told(reply, found).await.map_or_else(
-            |why| {
+    /// What is told of a server's reply. A forward that leads elsewhere passes to `retry`, which follows
+    /// it to guards alone.
+    async fn told(&self, reply: Reply, asked: &Asked) -> Sent {
+        let is_judged = asked.request.meant != Meant::Any && is_forward(reply.status);
+        let as_it_is = is_judged.then(|| reply.clone());
+        match (self.guarded.told(reply, asked.peer.found).await, as_it_is) {
+            (Ok(answer), _) if answer.is_forward() => Sent::Led(answer),
+            (Ok(answer), _) => Sent::Done(answer),
+            (Err(_), Some(Reply { status, order, body, .. })) => {
+                Sent::Led(Answer { status, order, contexts: Contexts::new(), body })
+            }
+            (Err(why), None) => {
+                // (it is kept: nothing that is sent later under the key acts either)
                 warn!(why, "a reply can't be passed on");
                 Sent::Done(Answer::system("IMP_LIMIT", 0, Completed::No))
-            },
-            Sent::Done,
-        )
+            }
+        }
     }
 }
 
 /// What a loss means.
 fn lost(loss: Loss) -> Sent {
     match loss {
-        Loss::Unsent | Loss::Closed => Sent::Not(Refusal::Server),
+        Loss::Unsent | Loss::Closed | Loss::Refused => Sent::Not(Refusal::Server),
         Loss::Long => Sent::Not(Refusal::Long),
-        Loss::Lost => Sent::Maybe("COMM_FAILURE"),
+        Loss::Sets => Sent::Not(Refusal::Sets),
+        Loss::Lost | Loss::Silent => Sent::Maybe("COMM_FAILURE"),
     }
 }
 

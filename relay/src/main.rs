@@ -3,19 +3,32 @@
 //! `lemonrudder guard` stands before servers, and `lemonrudder retry` beside clients.
 
 mod access;
+mod alerts;
 mod compose;
+mod cuts;
+mod descriptors;
 mod forward;
 mod frames;
 mod front;
 mod guard;
+mod health;
+mod heard;
+mod joined;
+mod line;
+mod mark;
+mod memory;
 mod metrics;
+mod near;
 mod performers;
 mod points;
 mod pool;
 mod reasons;
 mod reference;
+mod reload;
 mod retry;
+mod sets;
 mod settings;
+mod shares;
 mod store;
 mod timer;
 mod tls;
@@ -23,11 +36,12 @@ mod upstream;
 mod wire;
 mod workers;
 
-use settings::{Lead, Log, Role, Words};
+use settings::{Deed, Lead, Log, Role, Words};
 use std::env;
 use std::future::Future;
 use std::io::{stderr, IsTerminal};
 use std::process::ExitCode;
+use store::looked;
 use tokio::runtime::Builder;
 use tracing_subscriber::filter::LevelFilter;
 
@@ -65,12 +79,33 @@ fn run(form: Log, role: impl Future<Output = Result<(), String>>) -> ExitCode {
 /// Prints a reference that leads to the same object by another address.
 fn led(lead: &Lead) -> ExitCode {
     let at = wire::parts_of(&lead.at).ok_or("--at is no HOST:PORT".to_owned());
-    match at.and_then(|(host, port)| reference::at(&lead.reference, &host, port)) {
+    match at.and_then(|(host, port)| reference::at(&lead.reference, &host, port, lead.tls)) {
         Ok(text) => {
             println!("{text}");
             ExitCode::SUCCESS
         }
         Err(why) => said(&[why], 1),
+    }
+}
+
+/// Does something with a store.
+fn looked_into(deed: &Deed) -> ExitCode {
+    let shown = match deed {
+        Deed::Show { store } => looked::show(store).map_err(|why| vec![why]),
+        Deed::Copy { store, to } => {
+            looked::copy(store, to).map(|()| vec![]).map_err(|why| vec![why])
+        }
+        Deed::Check { store } => match looked::check(store) {
+            faults if faults.is_empty() => Ok(faults),
+            faults => Err(faults),
+        },
+    };
+    match shown {
+        Ok(lines) => {
+            lines.iter().for_each(|line| println!("{line}"));
+            ExitCode::SUCCESS
+        }
+        Err(faults) => said(&faults, 1),
     }
 }
 
@@ -87,5 +122,6 @@ fn main() -> ExitCode {
         }
         Role::Retry(settings) => run(settings.common.log, retry::run(settings)),
         Role::Ior(lead) => led(&lead),
+        Role::Store(kept) => looked_into(&kept.deed),
     }
 }

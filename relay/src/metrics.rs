@@ -48,7 +48,11 @@ pub struct Metrics {
     pub connections: IntGauge,
     pub ended: IntCounterVec,
     pub lines: IntGauge,
+    /// Octets that are held for peers.
+    pub memory: IntGauge,
     pub lines_ended: IntCounterVec,
+    /// Connections to servers or guards on which nothing came any more.
+    pub lines_silent: IntCounter,
     /// How long a transaction of the store took, and how many steps it had.
     pub writes: Histogram,
     pub batches: Histogram,
@@ -175,12 +179,18 @@ impl Metrics {
             late: count(it, "late_total", "Replies for which nobody waits any more"),
             connections: gauge(it, "connections", "Connections of clients"),
             ended: counts(it, "connections_ended_total", "Connections that ended", "why"),
+            memory: gauge(it, "memory_octets", "Octets that are held for clients"),
             lines: gauge(it, "server_connections", "Connections to servers or guards"),
             lines_ended: counts(
                 it,
                 "server_connections_ended_total",
                 "Connections to servers or guards that ended",
                 "why",
+            ),
+            lines_silent: count(
+                it,
+                "server_connections_silent_total",
+                "Connections to servers or guards on which nothing came any more",
             ),
             steps: Steps::of(it),
             waiting: gauge(it, "waiting", "Requests that wait for their first transmission"),

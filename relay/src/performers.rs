@@ -2,12 +2,14 @@
 //! few are begun.
 
 use crate::front::{Asked, Role};
+use crate::memory::Owed;
+use crate::shares::{One, Place};
 use crate::timer::Timer;
 use crate::wire::locked;
 use crate::workers::here;
 use lemonrudder::{Version, Wish};
 use std::sync::{Arc, Mutex};
-use tokio::sync::{mpsc, oneshot, OwnedSemaphorePermit};
+use tokio::sync::{mpsc, oneshot};
 
 /// How many tasks of a thread wait for requests at most.
 const IDLE: usize = 64;
@@ -19,19 +21,24 @@ pub struct Job {
     pub wish: Wish,
     pub id: u32,
     /// Where its reply is due.
-    pub due: mpsc::Sender<Vec<u8>>,
-    /// Its places among those of its connection, and among all.
-    pub places: (OwnedSemaphorePermit, OwnedSemaphorePermit),
+    pub due: mpsc::Sender<Owed>,
+    /// Its place among those under way, where that is not by its client id; and that it is one of
+    /// its connection, and of all.
+    pub place: Option<Place>,
+    pub is_one: (One, One),
 }
 
 impl Job {
     async fn perform<R: Role>(self, role: &R, timer: &mut Timer) {
-        let Job { asked, version, wish, id, due, places } = self;
+        let Job { asked, version, wish, id, due, place, is_one } = self;
+        let peer = asked.peer.clone();
         let answer = role.perform(asked, timer).await;
         if let Some(answer) = answer.filter(|_| wish != Wish::None) {
-            _ = due.send(answer.reply(version, id)).await;
+            let owed = peer.account.owes(answer.reply(version, id));
+            drop(answer);
+            _ = due.send(owed).await;
         }
-        drop(places);
+        drop((place, is_one));
     }
 }
 

@@ -3,31 +3,36 @@
 //! Each request gets an id of its own on its connection. Requests with the same code sets share
 //! connections, since those belong to a connection (CORBA 3.3 Part 2, 7.10.2.5).
 
+use crate::alerts;
 use crate::compose::{self, Body, Contexts, Head};
-use crate::forward::{self, Answer, CODE_SETS};
+use crate::forward::{self, Answer};
 use crate::frames::Frames;
+use crate::health::{Sign, Watch, SILENT};
+use crate::joined::Joined;
+use crate::line::{self, End, Line, Pending, State};
 use crate::metrics::metrics;
 use crate::points::point;
 use crate::reasons;
+use crate::sets::{self, CodeSets, Shares};
 use crate::tls::Connector;
-use crate::wire::{self, locked, Reading, Stream, Writing};
+use crate::wire::{self, locked, Reading, Stream};
 use crate::workers::{busy, here};
-use lemonrudder::{write, Assembler, Completed, Limits, MessageType, Order, Version, Wish};
+use lemonrudder::{Completed, Cuts, Limits, Message, MessageType, Order};
 use std::collections::BTreeMap;
+use std::convert::Infallible;
 use std::io;
-use std::net::SocketAddr;
+use std::net::{IpAddr, SocketAddr};
 use std::pin::pin;
 use std::sync::atomic::{AtomicU32, Ordering};
 use std::sync::{Arc, Mutex};
 use std::time::{Duration, Instant};
 use tokio::io::AsyncReadExt;
 use tokio::select;
-use tokio::sync::{mpsc, oneshot, Notify};
 use tokio::task::JoinHandle;
 use tokio::time::{sleep, sleep_until, timeout};
 use tracing::{info, warn};
 
-/// What is written at once, where there is so much.
+/// What is read at once.
 const BATCH: usize = 1 << 16;
 /// A peer has to take what is due to it within this time.
 pub const UNWRITTEN: Duration = Duration::from_secs(60);
@@ -35,8 +40,16 @@ pub const UNWRITTEN: Duration = Duration::from_secs(60);
 const PAUSES: (Duration, Duration) = (Duration::from_millis(50), Duration::from_secs(2));
 /// How long who asks whether a server is there waits at most.
 const SHORTLY: Duration = Duration::from_secs(2);
-/// For how many code sets there are connections.
-const CLASSES: usize = 64;
+/// How often it is looked whether a connection is alive, at most and at least.
+const SHORTEST: Duration = Duration::from_millis(10);
+const TICK: Duration = Duration::from_secs(1);
+/// For how many code sets there are connections to a server, and how many of them one address may
+/// have requests of; and the same of a guard.
+pub const CLASSES: usize = 64;
+const OF_ADDRESS: (usize, usize) = (CLASSES / 2, CLASSES / 4);
+/// Why a connection ends on which nothing waits, or that answers nothing.
+const OTHERS: &str = "others had to be opened";
+const DOUBTED: &str = "nothing came on another any more";
 
 /// Why a request has no reply.
 #[derive(Clone, Copy, Debug, PartialEq, Eq)]
@@ -47,8 +60,14 @@ pub enum Loss {
     Closed,
     /// The connection was lost: nobody knows.
     Lost,
+    /// The same, since the guard gave no sign on it.
+    Silent,
     /// It would be longer than a message may be; nothing of it was sent.
     Long,
+    /// Too many code sets are under way; nothing of it was sent.
+    Sets,
+    /// The peer refused this program's certificate, and has heard nothing of it.
+    Refused,
 }
 
 /// A reply as it came.
@@ -70,41 +89,13 @@ impl Reply {
     }
 }
 
-/// What came of a request; no reply, where none was wished.
-type Ending = Result<Option<Reply>, Loss>;
-
-/// Why a connection ends, and what becomes of the requests that wait, where it does.
-type End = Result<(), (&'static str, Loss)>;
-
-/// What is to be written.
-enum Due {
-    Request { id: u32, wish: Wish, octets: Vec<u8>, ended: oneshot::Sender<Ending> },
-    Octets(Vec<u8>),
-}
-
-/// The requests of a connection that wait for their replies.
-#[derive(Default)]
-struct Waiting {
-    is_over: bool,
-    requests: BTreeMap<u32, oneshot::Sender<Ending>>,
-}
-
-/// A connection.
-struct Line {
-    /// The thread that it is of. Others send on it where they have none.
-    home: usize,
-    next: AtomicU32,
-    due: mpsc::UnboundedSender<Due>,
-    waiting: Mutex<Waiting>,
-    /// Told, where nobody uses it any more.
-    left: Notify,
-}
-
 /// Connections for requests of the same code sets.
 #[derive(Default)]
 struct Class {
     lines: Mutex<Vec<Arc<Line>>>,
     opening: tokio::sync::Mutex<Opening>,
+    /// On how many connections one after another the guard gave no sign.
+    silences: AtomicU32,
 }
 
 /// What is known of the last attempts to connect.
@@ -136,6 +127,10 @@ pub struct Terms {
     pub idle: Duration,
     /// How long what is sent may be unconfirmed by the peer's system.
     pub unconfirmed: Duration,
+    /// How long a message may bring nothing of its octets.
+    pub stalled: Duration,
+    /// Whether it is a guard, which is asked for signs.
+    pub is_guard: bool,
     /// Where this program listens itself.
     pub own: Vec<SocketAddr>,
 }
@@ -144,28 +139,23 @@ pub struct Terms {
 pub struct Pool {
     places: Box<dyn Places>,
     terms: Terms,
-    classes: Mutex<BTreeMap<Vec<u8>, Arc<Class>>>,
-}
-
-/// A request that was handed to a connection.
-pub struct Pending {
-    ended: oneshot::Receiver<Ending>,
-    line: Arc<Line>,
-    id: u32,
-    form: (Version, Order),
+    classes: Mutex<BTreeMap<Option<CodeSets>, Arc<Class>>>,
+    shares: Arc<Shares>,
 }
 
 impl Pool {
     #[must_use]
     pub fn new(places: Box<dyn Places>, terms: Terms) -> Arc<Pool> {
-        Arc::new(Pool { places, terms, classes: Mutex::default() })
+        let (of_server, of_guard) = OF_ADDRESS;
+        let shares = Shares::new(if terms.is_guard { of_guard } else { of_server });
+        Arc::new(Pool { places, terms, classes: Mutex::default(), shares })
     }
 
     /// Whether a connection is there, or is within a short time.
     pub async fn is_there(self: &Arc<Self>) -> bool {
         let is_open =
-            self.class(&[]).is_ok_and(|class| least(locked(&class.lines).iter()).is_some());
-        is_open || matches!(timeout(SHORTLY, self.line(&[])).await, Ok(Ok(_)))
+            self.class(None).is_ok_and(|class| least(locked(&class.lines).iter()).is_some());
+        is_open || matches!(timeout(SHORTLY, self.line(None)).await, Ok(Ok(_)))
     }
 
     /// A connection of its own, to an address.
@@ -177,25 +167,43 @@ impl Pool {
         wire::connect(address, &self.terms).await
     }
 
-    /// Hands a request to a connection.
+    /// Hands a request of who is at an address to a connection.
     ///
     /// # Errors
     ///
-    /// `Unsent`, where there is no connection, and `Long`.
-    pub async fn send(self: &Arc<Self>, head: &Head, body: &Body) -> Result<Pending, Loss> {
-        let sets = head.contexts.iter().find(|(id, _)| *id == CODE_SETS);
-        let line = self.line(sets.map_or(&[], |(_, data)| data)).await?;
-        let id = line.next.fetch_add(1, Ordering::Relaxed);
-        let octets = compose::request(head, id, body).ok_or(Loss::Long)?;
-        let (ended, end) = oneshot::channel();
-        let due = Due::Request { id, wish: head.wish, octets, ended };
-        line.due.send(due).map_err(|_| Loss::Unsent)?;
-        Ok(Pending { ended: end, line, id, form: (head.version, head.order) })
+    /// `Unsent`, where there is no connection, `Long` and `Sets`.
+    pub async fn send(
+        self: &Arc<Self>,
+        head: &Head,
+        body: &Arc<Body>,
+        from: IpAddr,
+    ) -> Result<Pending, Loss> {
+        let sets = sets::said_in(&head.contexts);
+        let held = match sets.map(|sets| self.shares.hold(from, sets)) {
+            Some(None) => return Err(Loss::Sets),
+            held => held.flatten(),
+        };
+        loop {
+            let line = self.line(self.kind_of(sets)).await?;
+            if let Some(pending) = line.sends(head, body)? {
+                return Ok(pending.holding(held));
+            }
+        }
+    }
+
+    /// What the connections have in common of requests with these code sets. A guard takes them from
+    /// each request that has them.
+    fn kind_of(&self, sets: Option<CodeSets>) -> Option<CodeSets> {
+        if self.terms.is_guard {
+            sets.map(|_| CodeSets::default())
+        } else {
+            sets
+        }
     }
 
     /// A connection for requests with these code sets: the one with the fewest outstanding, or a
     /// new one.
-    async fn line(self: &Arc<Self>, sets: &[u8]) -> Result<Arc<Line>, Loss> {
+    async fn line(self: &Arc<Self>, sets: Option<CodeSets>) -> Result<Arc<Line>, Loss> {
         let class = self.class(sets)?;
         let Some((line, is_busy)) = class.best(self.terms.most) else {
             return Box::pin(self.first(&class)).await;
@@ -225,19 +233,19 @@ impl Pool {
         self.open(class, &mut opening).await
     }
 
-    /// The connections for these code sets.
-    fn class(&self, sets: &[u8]) -> Result<Arc<Class>, Loss> {
+    /// The connections for these code sets. Those of none are beside the others.
+    fn class(&self, sets: Option<CodeSets>) -> Result<Arc<Class>, Loss> {
         let mut classes = locked(&self.classes);
-        if let Some(class) = classes.get(sets) {
+        if let Some(class) = classes.get(&sets) {
             return Ok(class.clone());
         }
-        if classes.len() >= CLASSES {
+        let others = || classes.iter().filter(|(sets, _)| sets.is_some());
+        if sets.is_some() && others().count() >= CLASSES {
             // (what holds one beside this are its connections, and requests that look for one)
-            let idle =
-                classes.iter().find(|(_, class)| class.ends_idle()).map(|(sets, _)| sets.clone());
-            classes.remove(&idle.ok_or(Loss::Unsent)?);
+            let idle = others().find(|(_, class)| class.ends_idle()).map(|(sets, _)| *sets);
+            classes.remove(&idle.ok_or(Loss::Sets)?);
         }
-        Ok(classes.entry(sets.to_vec()).or_default().clone())
+        Ok(classes.entry(sets).or_default().clone())
     }
 
     /// Opens one connection more, after a pause where the last attempt failed.
@@ -268,19 +276,20 @@ impl Pool {
         info!(server = %address, "connected");
         metrics().lines.inc();
         let (reading, writing) = stream.halves();
-        let (due, dues) = mpsc::unbounded_channel();
-        let (next, waiting, left) = (AtomicU32::new(1), Mutex::default(), Notify::new());
-        let line = Arc::new(Line { home: here(), next, due, waiting, left });
+        let (line, dues) = Line::new();
         locked(&class.lines).push(line.clone());
-        let writer = tokio::spawn(writes(line.clone(), writing, dues));
+        let writer = tokio::spawn(line::writes(line.clone(), writing, dues));
         let (pool, class, read) = (self.clone(), class.clone(), line.clone());
         tokio::spawn(async move {
-            let (why, loss) = reads(&pool, &read, reading, &writer).await;
+            let (why, loss) = reads(&pool, &class, &read, reading, &writer).await;
             metrics().lines.dec();
             metrics().lines_ended.with_label_values(&[why]).inc();
-            info!(server = %address, why, "ended");
+            match loss {
+                Loss::Refused => warn!(server = %address, why, "ended"),
+                _ => info!(server = %address, why, "ended"),
+            }
             locked(&class.lines).retain(|line| !Arc::ptr_eq(line, &read));
-            read.end(loss);
+            read.end(why, loss);
             writer.abort();
         });
         line
@@ -297,133 +306,43 @@ impl Class {
     /// whether there should be one more: each thread has its share of so many.
     fn best(&self, most: usize) -> Option<(Arc<Line>, bool)> {
         let (lines, home, share) = (locked(&self.lines), here(), most.div_ceil(busy()));
-        let of = |home| lines.iter().filter(move |line| line.home == home);
+        let open = || lines.iter().filter(|line| line.load().is_some());
+        let of = |home| open().filter(move |line| line.home == home);
         if let Some((load, line)) = least(of(home)) {
-            let is_more = load > 0 && lines.len() < most && of(home).count() < share;
+            let is_more = load > 0 && open().count() < most && of(home).count() < share;
             return Some((line.clone(), is_more));
         }
-        let (load, line) = least(lines.iter())?;
-        if load > 0 || lines.len() < most || of(line.home).count() <= share || !line.ends_idle() {
-            return Some((line.clone(), lines.len() < most));
+        let Some((load, line)) = least(open()) else {
+            // (there are enough of those that are asked for a sign: one may come)
+            let asked = lines.iter().filter(|line| line.state() == State::Asked);
+            let least = asked.filter(|_| lines.len() >= 2 * most).min_by_key(|line| line.waits());
+            return least.map(|line| (line.clone(), false));
+        };
+        let count = open().count();
+        if load > 0 || count < most || of(line.home).count() <= share || !line.ends_idle(OTHERS) {
+            return Some((line.clone(), count < most));
         }
         // (its place is for one of this thread)
         line.left.notify_one();
-        least(lines.iter()).map(|(_, line)| (line.clone(), false))
+        least(open()).map(|(_, line)| (line.clone(), false))
     }
 
     /// Ends its connections, where nothing waits on any, and nobody looks for one: whether that is so.
     fn ends_idle(self: &Arc<Class>) -> bool {
         let lines = locked(&self.lines);
         let is_idle = Arc::strong_count(self) == 1 + lines.len()
-            && lines.iter().all(|line| line.load().unwrap_or(0) == 0);
-        for line in lines.iter().filter(|line| is_idle && line.ends_idle()) {
+            && lines.iter().all(|line| line.waits() == 0);
+        for line in lines.iter().filter(|line| is_idle && line.ends_idle(OTHERS)) {
             line.left.notify_one();
         }
         is_idle
     }
-}
 
-impl Line {
-    /// How many requests wait, unless it is over.
-    fn load(&self) -> Option<usize> {
-        let waiting = locked(&self.waiting);
-        (!waiting.is_over).then_some(waiting.requests.len())
-    }
-
-    /// Ends what waits.
-    fn end(&self, loss: Loss) {
-        let mut waiting = locked(&self.waiting);
-        waiting.is_over = true;
-        for (_, ended) in std::mem::take(&mut waiting.requests) {
-            _ = ended.send(Err(loss));
+    /// Ends the connections on which nothing waits: what became of one may have become of them.
+    fn doubts(&self) {
+        for line in locked(&self.lines).iter().filter(|line| line.ends_idle(DOUBTED)) {
+            line.left.notify_one();
         }
-    }
-
-    /// Ends a request by its reply, unless nobody waits for that any more.
-    fn answers(&self, id: u32, reply: Reply) {
-        match locked(&self.waiting).requests.remove(&id) {
-            Some(ended) => _ = ended.send(Ok(Some(reply))),
-            None => metrics().late.inc(),
-        }
-    }
-
-    /// Rests, after something came last: why the connection ends, where that is too long ago.
-    fn rests(&self, heard: &mut Instant, idle: Duration, writer: &JoinHandle<()>) -> End {
-        if heard.elapsed() < idle {
-            return Ok(());
-        }
-        if self.ends_idle() {
-            return Err(("it was idle", Loss::Unsent));
-        }
-        if writer.is_finished() {
-            return Err(("it takes nothing", Loss::Lost));
-        }
-        *heard = Instant::now();
-        Ok(())
-    }
-
-    /// Ends a connection on which nothing waits: whether nothing did.
-    fn ends_idle(&self) -> bool {
-        let mut waiting = locked(&self.waiting);
-        waiting.is_over = waiting.requests.is_empty();
-        waiting.is_over
-    }
-
-    /// Notes a request that is to be written now: false where the connection is over.
-    fn notes(&self, id: u32, ended: oneshot::Sender<Ending>) -> bool {
-        let mut waiting = locked(&self.waiting);
-        if !waiting.is_over {
-            waiting.requests.insert(id, ended);
-        }
-        !waiting.is_over
-    }
-
-    /// Takes octets and requests until there are enough to be written: those that wish no reply.
-    fn gather(
-        &self,
-        first: Due,
-        dues: &mut mpsc::UnboundedReceiver<Due>,
-        octets: &mut Vec<u8>,
-    ) -> Vec<oneshot::Sender<Ending>> {
-        let (mut next, mut quiet) = (Some(first), Vec::new());
-        while let Some(due) = next {
-            match due {
-                Due::Octets(more) => octets.extend(more),
-                Due::Request { ended, .. } if ended.is_closed() => {} // (nobody waits any more)
-                Due::Request { wish: Wish::None, octets: more, ended, .. } => {
-                    octets.extend(more);
-                    quiet.push(ended);
-                }
-                Due::Request { id, octets: more, ended, .. } => {
-                    if self.notes(id, ended) {
-                        octets.extend(more);
-                    }
-                }
-            }
-            next = if octets.len() < BATCH { dues.try_recv().ok() } else { None };
-        }
-        quiet
-    }
-}
-
-/// Writes what is due on a connection, until it is over.
-async fn writes(line: Arc<Line>, mut half: Writing, mut dues: mpsc::UnboundedReceiver<Due>) {
-    let mut octets = Vec::new();
-    while let Some(first) = dues.recv().await {
-        octets.clear();
-        let quiet = line.gather(first, &mut dues, &mut octets);
-        let is_written = wire::writes(&mut half, &octets, UNWRITTEN).await;
-        if is_written {
-            point("sent");
-        }
-        for ended in quiet {
-            _ = ended.send(if is_written { Ok(None) } else { Err(Loss::Lost) });
-        }
-        if !is_written {
-            line.end(Loss::Lost);
-            return;
-        }
-        octets.shrink_to(BATCH);
     }
 }
 
@@ -431,40 +350,136 @@ async fn writes(line: Arc<Line>, mut half: Writing, mut dues: mpsc::UnboundedRec
 /// that wait.
 async fn reads(
     pool: &Pool,
+    class: &Class,
     line: &Line,
-    mut half: Reading,
+    half: Reading,
     writer: &JoinHandle<()>,
 ) -> (&'static str, Loss) {
     let message = u32::try_from(compose::LONGEST).unwrap_or(u32::MAX);
-    let limits = Limits { message, partials: 16 };
-    let Ok(mut assembler) = Assembler::open(limits) else {
-        return ("memory is short", Loss::Unsent);
+    let limits = Limits { message, partials: 16, cuts: Cuts::Anywhere };
+    let Ok(joined) = Joined::open(limits) else {
+        // (some may be written by now)
+        return ("memory is short", Loss::Lost);
     };
-    let (mut frames, mut room) = (Frames::new(compose::LONGEST), vec![0; BATCH]);
-    let (idle, mut heard) = (pool.terms.idle, Instant::now());
-    let (mut left, mut quiet) = (pin!(line.left.notified()), pin!(sleep(idle)));
-    loop {
-        let read = select! {
-            biased;
-            read = half.read(&mut room) => read,
-            () = &mut left => return ("others had to be opened", Loss::Unsent),
-            () = &mut quiet => {
-                if let Err(why) = line.rests(&mut heard, idle, writer) {
-                    return why;
+    let (frames, now) = (Frames::new(compose::LONGEST), Instant::now());
+    let watch = Watch::new(now, pool.terms.stalled);
+    let watch = if pool.terms.is_guard {
+        watch.asking(class.silences.load(Ordering::Relaxed))
+    } else {
+        watch
+    };
+    let mut ear = Ear { class, line, frames, joined, watch, is_silent: false };
+    let Err(end) = ear.hears_all(half, &pool.terms, writer).await;
+    end
+}
+
+/// Who reads what comes on a connection.
+struct Ear<'l> {
+    class: &'l Class,
+    line: &'l Line,
+    frames: Frames,
+    joined: Joined,
+    watch: Watch,
+    /// Whether others were doubted for it.
+    is_silent: bool,
+}
+
+impl Ear<'_> {
+    /// Hears all that comes, until the connection ends.
+    async fn hears_all(
+        &mut self,
+        mut half: Reading,
+        terms: &Terms,
+        writer: &JoinHandle<()>,
+    ) -> Result<Infallible, (&'static str, Loss)> {
+        let tick = TICK.min(terms.stalled / 4).min(terms.idle).max(SHORTEST);
+        let (mut heard, mut is_heard, mut room) = (Instant::now(), false, vec![0; BATCH]);
+        let (mut left, mut quiet) = (pin!(self.line.left.notified()), pin!(sleep(tick)));
+        loop {
+            select! {
+                biased;
+                read = half.read(&mut room) => {
+                    let size = size_of(read, is_heard)?;
+                    (heard, is_heard) = (Instant::now(), true);
+                    self.takes(&room[..size])?;
                 }
-                quiet.as_mut().reset((heard + idle).into());
-                continue;
+                () = &mut left => {
+                    left.set(self.line.left.notified());
+                    self.turns()?;
+                }
+                () = &mut quiet => {
+                    self.line.rests(&mut heard, terms.idle, writer)?;
+                    self.judges()?;
+                    quiet.as_mut().reset((Instant::now() + tick).into());
+                }
             }
-        };
-        let size = match read {
-            Ok(0) => return ("it was closed without a goodbye", Loss::Lost),
-            Ok(size) => size,
-            Err(error) => return (named(&error), Loss::Lost),
-        };
-        heard = Instant::now();
-        if let Err(end) = takes(line, &mut frames, &mut assembler, &room[..size]) {
-            return end;
         }
+    }
+
+    /// Takes octets that came: it ends where it answers an error.
+    fn takes(&mut self, mut octets: &[u8]) -> End {
+        let (size, mut has_ended) = (octets.len(), false);
+        while !octets.is_empty() {
+            let taken = self.frames.take(&mut octets);
+            hears(self.line, &mut self.joined, taken.octets(), &mut self.frames)?;
+            has_ended |= !self.frames.is_amid();
+        }
+        let is_amid = self.frames.is_amid();
+        if self.watch.hears(Instant::now(), size, has_ended, is_amid) {
+            self.line.turns(State::Asked, State::Open);
+        }
+        self.class.silences.store(0, Ordering::Relaxed);
+        Ok(())
+    }
+
+    /// Looks what became of the connection: it ends where it answers an error.
+    fn turns(&mut self) -> End {
+        let state = self.line.state();
+        if !self.is_silent && matches!(state, State::Silent | State::Over(SILENT)) {
+            self.is_silent = true;
+            self.class.doubts();
+        }
+        match state {
+            State::Over(why) => Err((why, Loss::Unsent)),
+            State::Open | State::Asked | State::Silent => Ok(()),
+        }
+    }
+
+    /// Looks whether the connection is alive: it ends where it answers an error.
+    fn judges(&mut self) -> End {
+        match self.watch.judges(Instant::now(), self.line.waits(), self.line.given()) {
+            Sign::Fine => Ok(()),
+            Sign::Asks => {
+                self.line.asks();
+                Ok(())
+            }
+            Sign::Ends(why, loss) => {
+                if loss == Loss::Silent {
+                    self.class.silences.fetch_add(1, Ordering::Relaxed);
+                    self.line.falls_silent();
+                    self.class.doubts();
+                    point("silent");
+                }
+                Err((why, loss))
+            }
+        }
+    }
+}
+
+/// How many octets were read, where some had come before or not, or why the connection ends.
+fn size_of(read: io::Result<usize>, is_heard: bool) -> Result<usize, (&'static str, Loss)> {
+    match read {
+        Ok(0) => Err(("it was closed without a goodbye", Loss::Lost)),
+        Ok(size) => Ok(size),
+        Err(error) => Err(failed(&error, is_heard)),
+    }
+}
+
+/// What an error of a connection means, of which octets had come or not.
+fn failed(error: &io::Error, is_heard: bool) -> (&'static str, Loss) {
+    match alerts::refusal(error) {
+        Some(why) if !is_heard => (why, Loss::Refused),
+        _ => (named(error), Loss::Lost),
     }
 }
 
@@ -476,29 +491,36 @@ fn named(error: &io::Error) -> &'static str {
     }
 }
 
-/// Takes octets that came on a connection: it ends where it answers an error.
-fn takes(line: &Line, frames: &mut Frames, assembler: &mut Assembler, mut octets: &[u8]) -> End {
-    while !octets.is_empty() {
-        let taken = frames.take(&mut octets);
-        hears(line, assembler, taken.octets(), frames)?;
+/// The reply that a message is which some frames complete.
+fn replied(message: &mut Message<'_>, frames: &Frames) -> Reply {
+    if frames.is_cut() {
+        return Reply::long();
     }
-    Ok(())
+    let mut reply = forward::reply_of(message);
+    reply.body.cuts = frames.cuts().behind(reply.body.place);
+    reply
 }
 
-/// Hears the messages that octets complete.
-fn hears(line: &Line, assembler: &mut Assembler, mut octets: &[u8], frames: &Frames) -> End {
+/// Hears the messages that octets complete. A reply at fault ends its request.
+fn hears(line: &Line, joined: &mut Joined, mut octets: &[u8], frames: &mut Frames) -> End {
     let whole = if frames.is_whole() { octets } else { &[] };
     while !octets.is_empty() {
-        let fed = assembler.feed(octets);
-        let fed = fed.map_err(|_| (reasons::of_fault(assembler.fault()), Loss::Lost))?;
+        let fed = match joined.feed(frames, octets) {
+            Ok(fed) => fed,
+            Err(fault) => {
+                let why = reasons::of_fault(fault);
+                let id = frames.gives_up(fault).and_then(|it| it.id_of_reply());
+                line.fails(id.ok_or((why, Loss::Lost))?, why);
+                return Ok(());
+            }
+        };
         octets = &octets[fed..];
-        let message = assembler.message_in(whole).map_err(|_| ("memory is short", Loss::Lost))?;
+        let message = joined.message_in(whole).map_err(|_| ("memory is short", Loss::Lost))?;
         let Some(mut message) = message else { continue };
+        line.hears();
         match message.message_type() {
             MessageType::Reply => {
-                let reply =
-                    if frames.is_cut() { Reply::long() } else { forward::reply_of(&mut message) };
-                line.answers(message.request_id(), reply);
+                line.answers(message.request_id(), replied(&mut message, frames));
             }
             MessageType::CloseConnection => return Err(("it said CloseConnection", Loss::Closed)),
             MessageType::MessageError => return Err(("it said MessageError", Loss::Lost)),
@@ -509,27 +531,22 @@ fn hears(line: &Line, assembler: &mut Assembler, mut octets: &[u8], frames: &Fra
     Ok(())
 }
 
-impl Pending {
-    /// Its reply; none where none was wished, and it was sent.
-    ///
-    /// # Errors
-    ///
-    /// All but `Long`.
-    pub async fn reply(&mut self) -> Ending {
-        (&mut self.ended).await.unwrap_or(Err(Loss::Unsent))
-    }
+#[cfg(test)]
+mod tests {
+    use super::*;
 
-    /// Tells the server that nobody waits for it any more.
-    pub fn cancel(self) {
-        if let Ok(octets) = write::cancel_request(self.form.0, self.form.1, self.id) {
-            _ = self.line.due.send(Due::Octets(octets));
-        }
-    }
-}
-
-/// A reply that comes later is dropped.
-impl Drop for Pending {
-    fn drop(&mut self) {
-        locked(&self.line.waiting).requests.remove(&self.id);
+    #[test]
+    fn requests_go_where_nothing_is_doubted() {
+        let (class, [(one, _ones), (other, _others)]) =
+            (Class::default(), [(); 2].map(|()| Line::new()));
+        locked(&class.lines).extend([one.clone(), other.clone()]);
+        let best = |most| class.best(most).map(|(line, _)| Arc::ptr_eq(&line, &one));
+        one.turns(State::Open, State::Asked);
+        assert_eq!((best(1), best(2)), (Some(false), Some(false)));
+        other.turns(State::Open, State::Silent);
+        assert_eq!((best(1), best(2)), (Some(true), None));
+        one.turns(State::Asked, State::Silent);
+        assert_eq!(best(1), None);
+        assert!(one.ends_idle(OTHERS) && one.state() == State::Over(OTHERS));
     }
 }

@@ -3,20 +3,22 @@
 //!
 //! A request without FT_REQUEST gets one (FT 23.2.7): the id of this relay, a number, and an
 //! expiration. One that has it keeps it. Both are sent to the first guard that can be reached, and
-//! again after each loss, on any connection to any guard, with the same key and the same expiration.
+//! again after each loss, on any connection to any guard of the store to which it went first, with the
+//! same key and the same expiration.
 
-use crate::compose::{Body, Head};
-use crate::forward::{Answer, Request, FT_REQUEST, PROFILES};
+use crate::compose::{Body, Head, STORE};
+use crate::forward::{is_forward, Answer, Request, FT_REQUEST, PROFILES};
 use crate::front::{self, Asked, Peer, Role};
 use crate::guard::DECLINED;
+use crate::mark::{Mark, Meant, Told};
 use crate::metrics::{self, metrics, Trouble};
 use crate::points::point;
 use crate::pool::{Loss, Pool, Reply, Terms};
 use crate::reasons::Refusal;
+use crate::reload::{Files, Reload};
 use crate::settings;
 use crate::store::Key;
 use crate::timer::Timer;
-use crate::tls::Connector;
 use crate::upstream::Upstream;
 use crate::wire::{self, shown};
 use futures_util::future::join_all;
@@ -24,6 +26,7 @@ use lemonrudder::cdr::Reader;
 use lemonrudder::{write, Completed, Error, FtRequest, Ior, Moment, Status, Wish};
 use std::fmt::Write;
 use std::io::{self, Read};
+use std::net::IpAddr;
 use std::sync::{Arc, Mutex, PoisonError};
 use std::time::Duration;
 use tokio::select;
@@ -35,15 +38,10 @@ use tracing::warn;
 const PAUSES: (Duration, Duration) = (Duration::from_millis(20), Duration::from_secs(1));
 /// How much longer than it is sent a key is kept, so that clocks may differ.
 const SLACK: Duration = Duration::from_secs(10);
-/// After how long without a reply a guard is asked whether it is there.
-const SILENCE: Duration = Duration::from_secs(5);
 /// How long what is sent to a guard may be unconfirmed by its system.
 const UNCONFIRMED: Duration = Duration::from_secs(15);
 /// How often a request is led on.
 const HOPS: u32 = 16;
-
-/// How many requests are under way at most.
-const REQUESTS: usize = 4096;
 
 /// Stands beside clients until the program is to end.
 ///
@@ -51,13 +49,17 @@ const REQUESTS: usize = 4096;
 ///
 /// Says why it can't begin.
 pub async fn run(settings: settings::Retry) -> Result<(), String> {
-    let settings::Retry { common, guard, name } = settings;
+    let reload = Reload::begin()?;
+    let files = Files::of_retry(&settings).map_err(|faults| faults.join("\n"))?;
+    let (tls, acceptor) = (files.connector.clone(), files.acceptor.clone());
+    tokio::spawn(reload.runs(files));
+    let settings::Retry { common, guard, name, .. } = settings;
     let keys = Keys::open(&name).map_err(|error| format!("random numbers: {error}"))?;
     let listeners = front::listen(&common.listen).await?;
     let mut guards = Vec::new();
     for address in guard {
-        let tls = Connector::open(&common.tls)?;
-        let terms = Terms { tls, ..common.terms(UNCONFIRMED, &listeners) };
+        let terms =
+            Terms { tls: tls.clone(), is_guard: true, ..common.terms(UNCONFIRMED, &listeners) };
         let pool = Pool::new(Box::new(vec![address.clone()]), terms);
         guards.push((address, pool));
     }
@@ -67,9 +69,9 @@ pub async fn run(settings: settings::Retry) -> Result<(), String> {
         metrics::listen(address, ready).await?;
     }
     let own = wire::all_parts(&[&common.published[..], &common.listen].concat());
-    let bounds = common.bounds(REQUESTS);
+    let bounds = common.bounds(usize::MAX, guards.len());
     let role = Retry::new(guards, own, keys, common.timeout);
-    front::serve(role, listeners, None, bounds, wire::ended()).await
+    front::serve(role, listeners, acceptor, bounds, wire::ended()).await
 }
 
 /// What keeps it from being ready.
@@ -96,6 +98,15 @@ fn fresh(prefix: &str) -> io::Result<Vec<u8>> {
     Ok(id.into_bytes())
 }
 
+/// Makes a key the next one: of another id, where there are no more numbers.
+fn follow(last: &mut Key, fresh: impl FnOnce() -> io::Result<Vec<u8>>) {
+    last.number = last.number.checked_add(1).unwrap_or_else(|| {
+        // (where there is none, as where no file can be opened, a longer one is this relay's alone too)
+        last.client = fresh().unwrap_or_else(|_| [&last.client[..], b"+"].concat());
+        1
+    });
+}
+
 impl Keys {
     /// Keys whose client ids begin with a prefix.
     ///
@@ -107,32 +118,57 @@ impl Keys {
         Ok(Keys { prefix: prefix.to_owned(), last })
     }
 
-    /// The next key.
-    fn next(&self) -> Key {
+    /// The next key. Its client id is that of a peer, by its number here: so the share that a guard
+    /// has for a client id is that of one peer.
+    fn next(&self, peer: u64) -> Key {
         let mut last = self.last.lock().unwrap_or_else(PoisonError::into_inner);
-        match (last.number.checked_add(1), fresh(&self.prefix)) {
-            (None, Ok(client)) => *last = Key { client, number: 1 },
-            (number, _) => last.number = number.unwrap_or(last.number),
-        }
-        last.clone()
+        follow(&mut last, || fresh(&self.prefix));
+        let mut key = last.clone();
+        key.client.extend(format!(".{peer}").into_bytes());
+        key
     }
 }
 
 /// A request that is sent until it is answered.
 struct Call {
     key: Key,
+    /// Whether it has its key of this relay, so that nobody else sends it.
+    is_ours: bool,
     head: Head,
-    body: Body,
+    body: Arc<Body>,
     /// The key of the object, as the client asked.
     object: Vec<u8>,
     ends: Instant,
-    /// On how many connections it was sent, or may have been.
-    sent: u32,
+    /// How many of its transmissions may have acted, or may act yet.
+    loose: u32,
+    /// The store for which those are meant, where its guard has told it.
+    store: Option<Mark>,
     /// How often it was handed to a connection.
     transmissions: u32,
     /// The guard to which it was led, by its index, and how often it was led on.
     led: Option<usize>,
     hops: u32,
+}
+
+impl Call {
+    /// It is handed to a connection, for the store of a guard: that to which it went, or the one that
+    /// the guard has told; one that has not is asked.
+    fn goes(&mut self, guard: &Upstream) {
+        self.loose += 1;
+        if self.store.is_none() {
+            self.store = guard.mark();
+        }
+        self.head.contexts.retain(|(id, _)| *id != STORE);
+        self.head.contexts.push(Meant::said(self.store.as_ref()));
+    }
+
+    /// By one of its transmissions nothing was performed, nor will be.
+    fn is_void(&mut self) {
+        self.loose -= 1;
+        if self.loose == 0 {
+            self.store = None;
+        }
+    }
 }
 
 /// What follows from a reply.
@@ -157,6 +193,8 @@ pub struct Retry {
 }
 
 impl Role for Retry {
+    const IS_BY_CLIENT: bool = false;
+
     async fn perform(&self, asked: Asked, timer: &mut Timer) -> Option<Answer> {
         metrics().free.inc();
         let _parked = metrics().park();
@@ -182,12 +220,13 @@ impl Retry {
     /// Sends a request until it is answered, or its time is over.
     async fn call(&self, peer: &Peer, request: Request, timer: &mut Timer) -> Answer {
         point("asked");
-        let Ok(mut call) = self.keyed(request) else {
+        let Ok(mut call) = self.keyed(request, peer.number) else {
             return peer.refuses(Refusal::Memory, None);
         };
-        let ended = match timer.until(call.ends, self.sends(&mut call)).await {
+        let (ends, from) = (call.ends, peer.address.ip());
+        let ended = match timer.until(ends, self.sends(&mut call, from)).await {
             Some(ended) => ended,
-            None => over(&call),
+            None => self.over(&call, "TIMEOUT"),
         };
         point("completed");
         ended.unwrap_or_else(|refusal| peer.refuses(refusal, Some(&call.key)))
@@ -195,11 +234,12 @@ impl Retry {
 
     /// A request with its key in FT_REQUEST. A one way call asks for a reply, so that it is known
     /// when it has arrived.
-    fn keyed(&self, request: Request) -> Result<Call, Error> {
-        let Request { mut head, body, ft } = request;
+    fn keyed(&self, request: Request, peer: u64) -> Result<Call, Error> {
+        let Request { mut head, body, ft, .. } = request;
         let (now, at) = (Moment::now(), Instant::now());
+        let is_ours = ft.is_none();
         let (key, expiration, ends) = match ft {
-            None => (self.keys.next(), now + (self.timeout + SLACK), at + self.timeout),
+            None => (self.keys.next(peer), now + (self.timeout + SLACK), at + self.timeout),
             Some(ft) => {
                 let left =
                     Duration::from_nanos(ft.expiration.0.saturating_sub(now.0).saturating_mul(100));
@@ -213,22 +253,31 @@ impl Retry {
             head.wish = Wish::Full;
         }
         let object = head.key.clone();
-        Ok(Call { key, head, body, object, ends, sent: 0, transmissions: 0, led: None, hops: 0 })
+        let (loose, store, transmissions, led, hops) = (0, None, 0, None, 0);
+        Ok(Call { key, is_ours, head, body, object, ends, loose, store, transmissions, led, hops })
     }
 
     /// Sends a request until it is answered.
-    async fn sends(&self, call: &mut Call) -> Result<Answer, Refusal> {
+    async fn sends(&self, call: &mut Call, from: IpAddr) -> Result<Answer, Refusal> {
         let mut pause = Duration::ZERO;
         loop {
-            let guard = self.guard_of(call).await;
-            let next = match transmits(&guard, call).await {
-                Ok(reply) => self.judges(&reply, call).await,
-                Err(Loss::Long) => return Err(Refusal::Long),
+            let Some(guard) = self.guard_of(call).await else {
+                return self.over(call, "COMM_FAILURE");
+            };
+            let next = match transmits(&guard, call, from).await {
+                Ok(reply) => self.judges(reply, &guard, call).await,
+                Err(Loss::Long) if call.loose == 0 => return Err(Refusal::Long),
+                Err(Loss::Long) => return self.over(call, "TIMEOUT"),
                 Err(Loss::Unsent) => {
                     guard.is_lost();
                     continue;
                 }
-                Err(Loss::Closed | Loss::Lost) => Next::Again,
+                Err(Loss::Sets) if call.loose == 0 => return Err(Refusal::Sets),
+                Err(Loss::Closed | Loss::Lost | Loss::Sets | Loss::Refused) => Next::Again,
+                Err(Loss::Silent) => {
+                    guard.checks().await;
+                    Next::Again
+                }
             };
             match next {
                 Next::Done(answer) => return Ok(answer),
@@ -245,20 +294,25 @@ impl Retry {
     }
 
     /// The guard that a request is sent to: the one that it was led to, or the first that can be
-    /// reached; once there is one.
-    async fn guard_of(&self, call: &mut Call) -> Arc<Upstream> {
+    /// reached, of those that may know of it; once there is one. None where all can be reached, and
+    /// none of them may.
+    async fn guard_of(&self, call: &mut Call) -> Option<Arc<Upstream>> {
         let mut ups = self.ups.clone();
         loop {
             ups.borrow_and_update();
-            if let Some(guard) = call.led.and_then(|index| self.guards.get(index)) {
-                if guard.is_up() {
-                    return guard.clone();
+            let serves =
+                |guard: &&Arc<Upstream>| guard.is_up() && guard.may_know(call.store.as_ref());
+            let led = call.led.and_then(|index| self.guards.get(index)).filter(serves);
+            if let Some(guard) = led.or_else(|| self.guards.iter().find(serves)) {
+                let is_led = led.is_some();
+                if !is_led && call.led.take().is_some() {
+                    // (who led it there is asked again)
+                    call.head.key.clone_from(&call.object);
                 }
-                // (who led it there is asked again)
-                (call.led, call.head.key) = (None, call.object.clone());
+                return Some(guard.clone());
             }
-            if let Some(guard) = self.guards.iter().find(|guard| guard.is_up()) {
-                return guard.clone();
+            if self.guards.iter().all(|guard| guard.is_up()) {
+                return None;
             }
             if ups.changed().await.is_err() {
                 std::future::pending::<()>().await;
@@ -266,19 +320,33 @@ impl Retry {
         }
     }
 
-    /// What follows from a reply to a request.
-    async fn judges(&self, reply: &Reply, call: &Call) -> Next {
+    /// What follows from a guard's reply to a request.
+    async fn judges(&self, mut reply: Reply, guard: &Upstream, call: &mut Call) -> Next {
         let is = |status: Status| reply.status == status.number();
-        if is(Status::SystemException) {
-            return refused(reply, call.sent);
+        let wants_other = is(Status::NeedsAddressingMode);
+        let (is_forward, refused) = (is_forward(reply.status), Refused::of(&reply));
+        let is_declined = refused == Some(Refused::Declined);
+        let told = Told::taken(&mut reply.contexts);
+        let is_void = told.as_ref().map_or(is_forward || refused.is_some(), |told| told.is_void);
+        let is_void = is_void || wants_other;
+        if let Some(told) = told {
+            guard.tells(told.mark);
         }
-        if is(Status::LocationForward) || is(Status::LocationForwardPerm) {
-            return self.led(reply, call.hops).await;
+        if is_void {
+            call.is_void();
         }
-        if is(Status::NeedsAddressingMode) {
-            return Next::Done(Answer::system("IMP_LIMIT", 0, Completed::No));
+        if is_forward {
+            return match self.led(&reply, call.hops).await {
+                Next::Done(refused) => self.ends_by(call, refused),
+                next => next,
+            };
         }
-        Next::Done(passed(reply))
+        match is_void {
+            _ if wants_other => self.ends_by(call, Answer::system("IMP_LIMIT", 0, Completed::No)),
+            true if is_declined => Next::Again,
+            true => self.ends_by(call, passed(reply)),
+            false => Next::Done(passed(reply)),
+        }
     }
 
     /// Where a reply leads that forwards: nobody has performed the request then.
@@ -289,9 +357,50 @@ impl Retry {
                 return Next::At(index, key.clone());
             }
         }
-        let places: Vec<String> = places.into_iter().map(|(place, _)| place.0).collect();
-        warn!(?places, "a reply leads to where no guard of the list is");
+        let places: Vec<String> = places
+            .iter()
+            .map(|((host, port), _)| wire::words_of(&shown(host.as_bytes()), *port))
+            .collect();
+        if hops < HOPS {
+            warn!(?places, "a reply leads to where no guard of the list is");
+        } else {
+            warn!(?places, hops, "a reply leads on, after too many hops");
+        }
         Next::Done(Answer::system("IMP_LIMIT", 0, Completed::No))
+    }
+
+    /// What is told of a request whose last transmission is answered so, of which nothing is kept:
+    /// another one may have acted.
+    fn ends_by(&self, call: &Call, answer: Answer) -> Next {
+        Next::Done(if call.loose == 0 {
+            answer
+        } else {
+            self.maybe(call, "TIMEOUT", "it is refused, and was sent before")
+        })
+    }
+
+    /// What is told of a request that is sent no more.
+    fn over(&self, call: &Call, name: &str) -> Result<Answer, Refusal> {
+        // (whose key is the client's own, that may send it elsewhere)
+        if call.loose == 0 && (call.is_ours || call.transmissions == 0) {
+            return Err(Refusal::Time);
+        }
+        Ok(self.maybe(call, name, "its time is over"))
+    }
+
+    /// MAYBE by an exception of this name, and why: unless it is that guards have another store.
+    fn maybe(&self, call: &Call, name: &str, why: &str) -> Answer {
+        metrics().maybe.inc();
+        let (client, number) = (shown(&call.key.client), call.key.number);
+        let strangers = self.guards.iter().filter(|it| !it.may_know(call.store.as_ref()));
+        let guards: Vec<&str> = strangers.map(|guard| guard.address()).collect();
+        let why = if guards.is_empty() {
+            why
+        } else {
+            "these guards have another store than the one to which it was sent"
+        };
+        warn!(%client, number, sent = call.loose, ?guards, "told MAYBE: {why}");
+        Answer::system(name, 0, Completed::Maybe)
     }
 
     /// The guard at an address, by its index, or any where it is this relay's own address.
@@ -316,12 +425,12 @@ fn places_in(reply: &Reply) -> Vec<((String, u16), Vec<u8>)> {
     places.take(PROFILES).collect()
 }
 
-/// Sends a request to a guard, and waits for its reply. Where nothing comes for long, the guard is
-/// asked whether it is there.
-async fn transmits(guard: &Arc<Upstream>, call: &mut Call) -> Result<Reply, Loss> {
+/// Sends a request of who is at an address to a guard, and waits for its reply.
+async fn transmits(guard: &Arc<Upstream>, call: &mut Call, from: IpAddr) -> Result<Reply, Loss> {
     let mut state = guard.state();
-    let mut pending = guard.pool().send(&call.head, &call.body).await?;
-    call.sent += 1;
+    call.goes(guard);
+    let sent = guard.pool().send(&call.head, &call.body, from).await;
+    let mut pending = sent.inspect_err(|_| call.is_void())?;
     call.transmissions += 1;
     if call.transmissions > 1 {
         metrics().sent_again.inc();
@@ -331,8 +440,14 @@ async fn transmits(guard: &Arc<Upstream>, call: &mut Call) -> Result<Reply, Loss
             ended = pending.reply() => match ended {
                 Ok(Some(reply)) => return Ok(reply),
                 Ok(None) => return Err(Loss::Lost),
-                Err(Loss::Unsent) => {
-                    call.sent -= 1;
+                Err(Loss::Unsent | Loss::Closed) => {
+                    call.is_void();
+                    return Err(Loss::Closed);
+                }
+                // (another guard may take it; of this one it is said why, where the connection ended)
+                Err(Loss::Refused) => {
+                    call.is_void();
+                    guard.is_lost();
                     return Err(Loss::Closed);
                 }
                 Err(loss) => return Err(loss),
@@ -340,50 +455,43 @@ async fn transmits(guard: &Arc<Upstream>, call: &mut Call) -> Result<Reply, Loss
             changed = state.changed() => if changed.is_err() || !*state.borrow() {
                 return Err(Loss::Lost);
             },
-            () = sleep(SILENCE) => guard.checks().await,
         }
     }
 }
 
-/// What follows from a system exception to a request that was sent so often.
-///
-/// That of a guard that has begun nothing is no outcome. It speaks of the past: another transmission
-/// of the key may act yet. The same is true where a guard refuses since the request has expired, or
-/// since it has no room.
-fn refused(reply: &Reply, sent: u32) -> Next {
-    let mut reader = Reader::at(&reply.body.octets, reply.order, reply.body.place);
-    let (Ok(id), Ok(minor), Ok(completed)) = (reader.string(), reader.ulong(), reader.ulong())
-    else {
-        return Next::Done(passed(reply));
-    };
-    let name = id.strip_prefix(b"IDL:omg.org/CORBA/").unwrap_or(id);
-    let is_no = completed == Completed::No.number();
-    match name {
-        b"TRANSIENT:1.0" if is_no && minor == DECLINED => Next::Again,
-        b"TRANSIENT:1.0" if completed == Completed::Maybe.number() => Next::Again,
-        b"NO_RESOURCES:1.0" if is_no && minor == DECLINED => Next::Again,
-        b"BAD_CONTEXT:1.0" if completed != Completed::Yes.number() && sent > 1 => {
-            Next::Done(Answer::system("TIMEOUT", 0, Completed::Maybe))
+/// What a reply is that is the refusal of a guard, where that does not tell which are its own.
+#[derive(Clone, Copy, Debug, PartialEq, Eq)]
+enum Refused {
+    /// It has begun nothing, and would begin it later: it speaks of that transmission alone.
+    Declined,
+    /// The request has expired, or is not for this certificate: another transmission may have acted.
+    Late,
+}
+
+impl Refused {
+    fn of(reply: &Reply) -> Option<Refused> {
+        if reply.status != Status::SystemException.number() {
+            return None;
         }
-        _ => Next::Done(passed(reply)),
+        let mut reader = Reader::at(&reply.body.octets, reply.order, reply.body.place);
+        let id = reader.string().ok()?;
+        let (minor, completed) = (reader.ulong().ok()?, reader.ulong().ok()?);
+        let is_no = completed == Completed::No.number();
+        match id.strip_prefix(b"IDL:omg.org/CORBA/").unwrap_or(id) {
+            b"TRANSIENT:1.0" | b"NO_RESOURCES:1.0" if is_no && minor == DECLINED => {
+                Some(Refused::Declined)
+            }
+            b"NO_PERMISSION:1.0" if is_no && minor == DECLINED => Some(Refused::Late),
+            b"BAD_CONTEXT:1.0" if completed != Completed::Yes.number() => Some(Refused::Late),
+            _ => None,
+        }
     }
 }
 
 /// A reply as it is told to a client.
-fn passed(reply: &Reply) -> Answer {
-    let Reply { status, order, contexts, body } = reply.clone();
+fn passed(reply: Reply) -> Answer {
+    let Reply { status, order, contexts, body } = reply;
     Answer { status, order, contexts, body }
-}
-
-/// What is told of a request whose time is over.
-fn over(call: &Call) -> Result<Answer, Refusal> {
-    if call.sent == 0 {
-        return Err(Refusal::Time);
-    }
-    metrics().maybe.inc();
-    let (client, number) = (shown(&call.key.client), call.key.number);
-    warn!(%client, number, sent = call.sent, "told MAYBE: its time is over");
-    Ok(Answer::system("TIMEOUT", 0, Completed::Maybe))
 }
 
 #[cfg(test)]
@@ -395,7 +503,7 @@ mod tests {
     use lemonrudder::{Order, Version};
 
     fn of(outcome: Outcome) -> Reply {
-        let body = Body { octets: outcome.body, place: outcome.place.into() };
+        let body = Body::at(outcome.place.into(), outcome.body);
         Reply { status: outcome.status, order: outcome.order, contexts: Contexts::new(), body }
     }
 
@@ -410,52 +518,116 @@ mod tests {
         let (key, operation) = (b"k".to_vec(), b"add".to_vec());
         let (version, order) = (Version::V12, Order::Little);
         let head = Head { version, order, wish, key, operation, contexts: Contexts::new() };
-        Request { head, body: Body::default(), ft }
+        Request { head, body: Arc::default(), ft, meant: Meant::Any }
     }
 
-    #[test]
-    fn what_a_refusal_means() {
-        let maybe = Next::Done(Answer::system("TIMEOUT", 0, Completed::Maybe));
-        for (name, minor, completed, sent, next) in [
-            ("TRANSIENT", DECLINED, Completed::No, 1, Some(Next::Again)),
-            ("TRANSIENT", DECLINED, Completed::No, 3, Some(Next::Again)),
-            ("TRANSIENT", 0, Completed::Maybe, 1, Some(Next::Again)),
-            ("TRANSIENT", 0, Completed::No, 1, None),
-            ("TRANSIENT", DECLINED, Completed::Yes, 1, None),
-            ("NO_RESOURCES", DECLINED, Completed::No, 1, Some(Next::Again)),
-            ("NO_RESOURCES", 0, Completed::No, 2, None),
-            ("BAD_CONTEXT", 0, Completed::No, 1, None),
-            ("BAD_CONTEXT", 0, Completed::No, 2, Some(maybe)),
-            ("COMM_FAILURE", 0, Completed::Maybe, 2, None),
+    fn mark(store: u8) -> Mark {
+        Mark { store: [store; 16], ..Mark::default() }
+    }
+
+    #[tokio::test]
+    async fn what_a_refusal_means() {
+        const NO: Completed = Completed::No;
+        const MAYBE: Completed = Completed::Maybe;
+        let maybe = || Next::Done(Answer::system("TIMEOUT", 0, Completed::Maybe));
+        // (whether it is told as void, how many others are loose, and what follows, if not the reply)
+        for (name, minor, completed, void, loose, next) in [
+            // a guard tells what is its own
+            ("TRANSIENT", DECLINED, NO, Some(true), 0, Some(Next::Again)),
+            ("TRANSIENT", DECLINED, NO, Some(true), 1, Some(Next::Again)),
+            ("NO_RESOURCES", DECLINED, NO, Some(true), 2, Some(Next::Again)),
+            ("BAD_CONTEXT", 0, NO, Some(true), 0, None),
+            ("BAD_CONTEXT", 0, NO, Some(true), 1, Some(maybe())),
+            // .. and what a server says arrives, though that is a guard too
+            ("TRANSIENT", DECLINED, NO, Some(false), 0, None),
+            ("NO_RESOURCES", DECLINED, NO, Some(false), 3, None),
+            ("TRANSIENT", 0, MAYBE, Some(false), 1, None),
+            ("BAD_CONTEXT", 0, NO, Some(false), 1, None),
+            ("COMM_FAILURE", 0, MAYBE, Some(false), 1, None),
+            // .. and of one that tells nothing
+            ("TRANSIENT", DECLINED, NO, None, 0, Some(Next::Again)),
+            ("NO_RESOURCES", DECLINED, NO, None, 1, Some(Next::Again)),
+            ("TRANSIENT", 0, NO, None, 0, None),
+            ("TRANSIENT", 0, MAYBE, None, 1, None),
+            ("TRANSIENT", DECLINED, MAYBE, None, 1, None),
+            ("TRANSIENT", DECLINED, Completed::Yes, None, 0, None),
+            ("NO_RESOURCES", 0, NO, None, 1, None),
+            ("NO_PERMISSION", DECLINED, NO, None, 0, None),
+            ("NO_PERMISSION", DECLINED, NO, None, 1, Some(maybe())),
+            ("NO_PERMISSION", 0, NO, None, 1, None),
+            ("BAD_CONTEXT", 0, NO, None, 0, None),
+            ("BAD_CONTEXT", 0, NO, None, 1, Some(maybe())),
         ] {
-            let reply = of(Outcome::system(name, minor, completed));
-            let wanted = next.unwrap_or_else(|| Next::Done(passed(&reply)));
-            assert_eq!(refused(&reply, sent), wanted, "{name} {minor} {completed:?} {sent}");
+            let relay = relay(&["127.0.0.1:1"]);
+            let mut reply = of(Outcome::system(name, minor, completed));
+            let wanted = next.unwrap_or_else(|| Next::Done(passed(reply.clone())));
+            reply.contexts.extend(void.map(|is_void| Told { mark: mark(1), is_void }.said()));
+            let mut call = relay.keyed(request(None, Wish::Full), 1).unwrap();
+            call.loose = loose + 1;
+            let next = relay.judges(reply, &relay.guards[0], &mut call).await;
+            assert_eq!(next, wanted, "{name} {minor} {completed:?} {void:?} {loose}");
+            assert_eq!(relay.guards[0].mark(), void.map(|_| mark(1)));
         }
+    }
+
+    #[tokio::test]
+    async fn a_request_goes_to_guards_of_its_store() {
+        let relay = relay(&["127.0.0.1:1", "127.0.0.1:2"]);
+        let [one, other] = [0, 1].map(|index| relay.guards[index].clone());
+        let mut call = relay.keyed(request(None, Wish::Full), 1).unwrap();
+        let said = |call: &Call| Meant::taken(&mut call.head.contexts.clone());
+        call.goes(&one);
+        assert_eq!((said(&call), call.store.clone()), (Meant::Asks, None));
+        call.is_void();
+        one.tells(mark(1));
+        other.tells(mark(2));
+        call.goes(&one);
+        assert_eq!(said(&call), Meant::For(mark(1)));
+        assert_eq!(call.head.contexts.len(), 2);
+        assert!(Arc::ptr_eq(&relay.guard_of(&mut call).await.unwrap(), &one));
+        // (of the other store is the other guard alone, which may know nothing of it)
+        one.tells(mark(2));
+        assert!(relay.guard_of(&mut call).await.is_none());
+        let told = Answer::system("COMM_FAILURE", 0, Completed::Maybe);
+        assert_eq!(relay.over(&call, "COMM_FAILURE"), Ok(told));
+        call.is_void();
+        assert!(Arc::ptr_eq(&relay.guard_of(&mut call).await.unwrap(), &one));
     }
 
     #[test]
     fn each_key_is_given_once() {
         let keys = Keys::open("east").unwrap();
-        let (one, two) = (keys.next(), keys.next());
-        assert_eq!((one.number, two.number), (1, 2));
+        let (one, two, of_other) = (keys.next(7), keys.next(7), keys.next(81));
+        assert_eq!((one.number, two.number, of_other.number), (1, 2, 3));
         assert_eq!(one.client, two.client);
-        assert!(one.client.starts_with(b"east.") && one.client.len() == 37);
+        assert!(one.client.starts_with(b"east.") && one.client.ends_with(b".7"));
+        assert_eq!(one.client.len(), 39);
+        assert_eq!(of_other.client, [&one.client[..38], b"81"].concat());
         keys.last.lock().unwrap().number = i32::MAX;
-        let third = keys.next();
+        let third = keys.next(7);
         assert!(third.number == 1 && third.client != one.client);
+    }
+
+    #[test]
+    fn no_key_is_given_twice_where_no_file_can_be_opened() {
+        let mut key = Key { client: b"east.1".to_vec(), number: i32::MAX - 1 };
+        let wanted = [("east.1", i32::MAX), ("east.1+", 1), ("east.1+", 2)];
+        for (client, number) in wanted {
+            follow(&mut key, || Err(io::ErrorKind::Other.into()));
+            assert_eq!(key, Key { client: client.into(), number });
+        }
     }
 
     #[tokio::test]
     async fn a_request_gets_a_key_or_keeps_its_own() {
         let relay = relay(&["127.0.0.1:1"]);
-        let given = relay.keyed(request(None, Wish::None)).unwrap();
+        let given = relay.keyed(request(None, Wish::None), 1).unwrap();
         assert_eq!((given.head.wish, given.key.number), (Wish::Full, 1));
         assert_eq!(given.head.contexts[0].0, FT_REQUEST);
         let (client, number) = (b"A".to_vec(), 7);
         let expiration = Moment::now() + Duration::from_secs(2);
         let ft = crate::forward::Ft { key: Key { client, number }, expiration };
-        let kept = relay.keyed(request(Some(ft.clone()), Wish::Empty)).unwrap();
+        let kept = relay.keyed(request(Some(ft.clone()), Wish::Empty), 1).unwrap();
         assert_eq!((kept.head.wish, &kept.key), (Wish::Empty, &ft.key));
         let said = FtRequest { client_id: b"A", retention_id: 7, expiration };
         let octets = write::ft_request(Order::Little, &said).unwrap();
@@ -478,7 +650,7 @@ mod tests {
             let mut ior = Ior::iiop("IDL:A:1.0", Version::V12, host, port, b"there").unwrap();
             let mut out = Writer::new(Order::Big);
             ior.write(&mut out).unwrap();
-            let body = Body { octets: out.into_octets(), place: 0 };
+            let body = Body::at(0, out.into_octets());
             let status = Status::LocationForward.number();
             let reply = Reply { status, order: Order::Big, contexts: Contexts::new(), body };
             let wanted = match next {
@@ -492,9 +664,12 @@ mod tests {
     #[tokio::test]
     async fn whose_time_is_over_is_told_whether_it_was_sent() {
         let relay = relay(&["127.0.0.1:1"]);
-        let mut call = relay.keyed(request(None, Wish::Full)).unwrap();
-        assert_eq!(over(&call), Err(Refusal::Time));
-        call.sent = 1;
-        assert_eq!(over(&call), Ok(Answer::system("TIMEOUT", 0, Completed::Maybe)));
+        let mut call = relay.keyed(request(None, Wish::Full), 1).unwrap();
+        assert_eq!(relay.over(&call, "TIMEOUT"), Err(Refusal::Time));
+        call.loose = 1;
+        let told = Answer::system("TIMEOUT", 0, Completed::Maybe);
+        assert_eq!(relay.over(&call, "TIMEOUT"), Ok(told));
+        call.is_void();
+        assert_eq!(relay.over(&call, "TIMEOUT"), Err(Refusal::Time));
     }
 }

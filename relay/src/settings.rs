@@ -13,7 +13,9 @@
 
 use crate::compose::LONGEST;
 use crate::front::Bounds;
-use crate::pool::Terms;
+use crate::memory::Memory;
+use crate::near::{OfClients, OfServers};
+use crate::pool::{Terms, CLASSES};
 use crate::store::Store;
 use crate::{access, front, reference, tls};
 use clap::parser::ValueSource;
@@ -29,9 +31,15 @@ use std::time::Duration;
 use tokio::net::TcpListener;
 use toml::{Spanned, Value};
 
+/// How many of the longest messages have room in memory at least.
+const MESSAGES: usize = 4;
 /// What stands above some of them in the help.
 const OF_LIMITS: &str = "Limits";
 const OF_TLS: &str = "TLS between retry and guard";
+/// What is said where nothing says where outcomes are kept: a guard that is begun in another folder would
+/// know nothing of them.
+const NO_STORE: &str = "store: nothing is said of it; give a file as outcomes.sqlite, \
+    postgres://USER@HOST/DATABASE, or memory, which nothing outlives";
 
 /// Exactly once between ORBs that know nothing of it: GIOP relays with FT_REQUEST.
 #[derive(Debug, Parser)]
@@ -48,6 +56,7 @@ pub enum Role {
     Retry(Retry),
     Ior(Lead),
     Check(Check),
+    Store(Kept),
 }
 
 /// Stands before servers: a request that comes again is answered by the outcome of its first
@@ -59,8 +68,8 @@ pub struct Guard {
     /// A file with a server's reference, read again whenever it is connected
     #[arg(long, value_name = "FILE")]
     pub reference: Vec<PathBuf>,
-    /// Where outcomes are kept: memory, a file, or postgres://USER@HOST/DATABASE
-    #[arg(long, default_value = "lemonrudder.sqlite")]
+    /// Where outcomes are kept: a file, postgres://USER@HOST/DATABASE, or memory
+    #[arg(long, default_value = "", hide_default_value = true)]
     pub store: String,
     /// After how long without a sign another guard of the store takes this one for lost
     #[arg(long, value_name = "SECONDS", default_value = "10", value_parser = seconds)]
@@ -68,19 +77,17 @@ pub struct Guard {
     /// How long an outcome is kept at most: what expires later is refused
     #[arg(long, value_name = "SECONDS", value_parser = seconds, help_heading = OF_LIMITS)]
     pub keep: Option<Duration>,
-    /// Requests under way at most
-    #[arg(long, value_name = "N", default_value = "4096", value_parser = count)]
-    #[arg(help_heading = OF_LIMITS)]
-    pub parked: usize,
     /// Requests under way at most of one client id
     #[arg(long, value_name = "N", default_value = "1024", value_parser = count)]
     #[arg(help_heading = OF_LIMITS)]
     pub share: usize,
-    /// Which client ids the holder of a certificate may use
+    /// What the holder of a certificate may ask for
     #[arg(long, value_name = "FILE", requires = "authorities", help_heading = OF_TLS)]
     pub clients: Option<PathBuf>,
     #[command(flatten)]
     pub common: Common,
+    #[command(flatten)]
+    pub near: OfServers,
 }
 
 /// Stands beside clients: sends each of their requests until it is answered
@@ -94,6 +101,8 @@ pub struct Retry {
     pub name: String,
     #[command(flatten)]
     pub common: Common,
+    #[command(flatten)]
+    pub near: OfClients,
 }
 
 /// Prints a reference that leads to the same object by another address
@@ -102,6 +111,9 @@ pub struct Lead {
     /// The address of a relay
     #[arg(long, value_name = "HOST:PORT", value_parser = address)]
     pub at: String,
+    /// The relay speaks TLS with clients
+    #[arg(long)]
+    pub tls: bool,
     /// The reference
     #[arg(value_name = "IOR:..")]
     pub reference: String,
@@ -112,6 +124,24 @@ pub struct Lead {
 pub struct Check {
     /// The file
     pub file: PathBuf,
+}
+
+/// Looks into a store in a file, also while its guard runs
+#[derive(Debug, Args)]
+pub struct Kept {
+    #[command(subcommand)]
+    pub deed: Deed,
+}
+
+/// What is done with a store.
+#[derive(Debug, Subcommand)]
+pub enum Deed {
+    /// Prints what it has, and what is under way
+    Show { store: PathBuf },
+    /// Says what is wrong in it
+    Check { store: PathBuf },
+    /// Makes a copy of it as it is at a moment
+    Copy { store: PathBuf, to: PathBuf },
 }
 
 /// What both roles have.
@@ -151,8 +181,9 @@ impl Common {
     /// How connections are opened by who listens so.
     #[must_use]
     pub fn terms(&self, unconfirmed: Duration, listeners: &[TcpListener]) -> Terms {
-        let (most, idle) = (self.connections, self.limits.idle);
-        Terms { tls: None, most, idle, unconfirmed, own: front::places_of(listeners) }
+        let (most, idle, own) = (self.connections, self.limits.idle, front::places_of(listeners));
+        let stalled = (self.timeout / 4).max(Duration::from_secs(1));
+        Terms { tls: None, most, idle, unconfirmed, stalled, is_guard: false, own }
     }
 
     /// How many threads serve, each by connections of its own to a server or a guard: one for two
@@ -163,11 +194,14 @@ impl Common {
         processors.div_ceil(2).min(self.connections)
     }
 
-    /// What clients may take, who may have so many requests under way.
+    /// What clients may take, of which one client id may have so many requests under way, where so
+    /// many servers or guards have connections of their own.
     #[must_use]
-    pub fn bounds(&self, requests: usize) -> Bounds {
+    pub fn bounds(&self, share: usize, upstreams: usize) -> Bounds {
         let (limits, drain, threads) = (self.limits.clone(), self.drain, self.threads());
-        Bounds { limits, requests, drain, threads }
+        let lines = upstreams.saturating_mul(self.connections).saturating_mul(CLASSES);
+        let memory = Memory::new(self.limits.memory);
+        Bounds { limits, share, memory, lines, drain, threads }
     }
 }
 
@@ -182,12 +216,18 @@ pub enum Log {
 #[derive(Clone, Debug, Args)]
 #[command(next_help_heading = OF_LIMITS)]
 pub struct Limits {
+    /// Requests under way at most; of one address less than three quarters of them
+    #[arg(long, value_name = "N", default_value = "4096", value_parser = count)]
+    pub parked: usize,
     /// Connections of clients at most
     #[arg(long, value_name = "N", default_value = "16384", value_parser = count)]
     pub peers: usize,
     /// Connections of clients from one address at most
     #[arg(long, value_name = "N", default_value = "12288", value_parser = count)]
     pub peers_per_address: usize,
+    /// What is held in memory for clients at most, in octets, or with K, M or G behind a number
+    #[arg(long, value_name = "SIZE", default_value = "1G", value_parser = size)]
+    pub memory: usize,
     /// The longest message: 4096 to 16777216
     #[arg(long, value_name = "OCTETS", default_value = "16777216", value_parser = length)]
     pub message: usize,
@@ -219,6 +259,9 @@ pub struct Tls {
     /// The authorities of the other side's certificates, as PEM
     #[arg(long, value_name = "FILE")]
     pub authorities: Option<PathBuf>,
+    /// What each of these authorities revoked: their lists (CRL), as PEM
+    #[arg(long, value_name = "FILE", requires = "authorities")]
+    pub revoked: Option<PathBuf>,
 }
 
 /// A count of at least 1.
@@ -233,6 +276,16 @@ fn count(word: &str) -> Result<usize, String> {
 fn length(word: &str) -> Result<usize, String> {
     let length = word.parse().ok().filter(|length| (4096..=LONGEST).contains(length));
     length.ok_or(format!("is not 4096 to {LONGEST}"))
+}
+
+/// So many octets, in which the longest message has room.
+fn size(word: &str) -> Result<usize, String> {
+    let (digits, unit) = match word.strip_suffix(['K', 'M', 'G']) {
+        Some(digits) => (digits, 1024 << (10 * "KMG".find(&word[digits.len()..]).unwrap_or(0))),
+        None => (word, 1),
+    };
+    let size = digits.parse().ok().and_then(|size: usize| size.checked_mul(unit));
+    size.filter(|size| *size > 0).ok_or("is no size, as 512M".into())
 }
 
 /// A time in seconds, more than none.
@@ -374,6 +427,21 @@ impl Words {
     ///
     /// Each fault, in a line.
     pub fn read(words: impl IntoIterator<Item = OsString>) -> Result<Words, Vec<String>> {
+        let words = parse(&Words::whole(words)?).map_err(|why| vec![why])?;
+        let missing = words.role.missing();
+        if missing.is_empty() {
+            Ok(words)
+        } else {
+            Err(missing)
+        }
+    }
+
+    /// The program's words, and behind them those that say what the file says that they name.
+    ///
+    /// # Errors
+    ///
+    /// Each fault of the file, in a line.
+    pub fn whole(words: impl IntoIterator<Item = OsString>) -> Result<Vec<OsString>, Vec<String>> {
         let words: Vec<OsString> = words.into_iter().collect();
         let found = Words::command().try_get_matches_from(&words);
         // (also where help is asked for: then it is printed, and the program ends)
@@ -396,13 +464,7 @@ impl Words {
                 }
             }
         }
-        let words = parse(&all).map_err(|why| vec![why])?;
-        let missing = words.role.missing();
-        if missing.is_empty() {
-            Ok(words)
-        } else {
-            Err(missing)
-        }
+        Ok(all)
     }
 }
 
@@ -414,20 +476,26 @@ fn parse(words: &[OsString]) -> Result<Words, String> {
 impl Role {
     /// What has to be said and is not, and what makes no sense.
     fn missing(&self) -> Vec<String> {
-        let (common, which, servers, references) = match self {
-            Role::Guard(it) => (&it.common, "server", &it.server, it.reference.len()),
-            Role::Retry(it) => (&it.common, "guard", &it.guard, 0),
-            Role::Ior(_) | Role::Check(_) => return Vec::new(),
+        let (common, which, servers, references, is_kept) = match self {
+            Role::Guard(it) => {
+                (&it.common, "server", &it.server, it.reference.len(), !it.store.is_empty())
+            }
+            Role::Retry(it) => (&it.common, "guard", &it.guard, 0, true),
+            Role::Ior(_) | Role::Check(_) | Role::Store(_) => return Vec::new(),
         };
         let (listen, tls) = (&common.listen, &common.tls);
         let is_missing =
             |is: bool, name: &str| is.then(|| format!("{name}: nothing is said of it"));
         let is_open = which == "server" && tls.authorities.is_some() && tls.certificate.is_none();
         let is_blind = which == "guard" && tls.certificate.is_some() && tls.authorities.is_none();
+        let Limits { memory, message, .. } = common.limits;
+        let is_small = memory < message.saturating_mul(MESSAGES);
         let itself = servers.iter().find(|server| listen.contains(server));
         let faults = [
             is_missing(listen.is_empty(), "listen"),
             is_missing(servers.len() + references == 0, which),
+            is_small.then(|| format!("memory: has no room for {MESSAGES} messages")),
+            (!is_kept).then(|| NO_STORE.to_owned()),
             is_open.then(|| "authorities: without a certificate there is no TLS".to_owned()),
             is_blind.then(|| "certificate: without authorities there is no TLS".to_owned()),
             itself.map(|server| format!("{which}: it listens itself at {server}")),
@@ -437,12 +505,12 @@ impl Role {
 
     /// What is wrong in the files that the settings name, and in the store's address.
     fn faults(&self) -> Vec<String> {
-        let (common, of_guard) = match self {
-            Role::Guard(it) => (&it.common, Some(it)),
-            Role::Retry(it) => (&it.common, None),
-            Role::Ior(_) | Role::Check(_) => return Vec::new(),
+        let (common, near, of_guard) = match self {
+            Role::Guard(it) => (&it.common, it.near.tls(), Some(it)),
+            Role::Retry(it) => (&it.common, it.near.tls(), None),
+            Role::Ior(_) | Role::Check(_) | Role::Store(_) => return Vec::new(),
         };
-        let mut faults: Vec<String> = tls::faults(&common.tls);
+        let mut faults: Vec<String> = [tls::faults(&common.tls), tls::faults(&near)].concat();
         if let Some(guard) = of_guard {
             let clients = guard.clients.as_deref().map(access::Clients::read);
             faults.extend(clients.and_then(Result::err).unwrap_or_default());
@@ -509,30 +577,48 @@ mod tests {
     }
 
     #[test]
-    fn two_words_say_enough() {
-        let guard = guard("guard --listen 0.0.0.0:2809 --server [::1]:2810").unwrap();
+    fn three_words_say_enough() {
+        let guard =
+            guard("guard --listen 0.0.0.0:2809 --server [::1]:2810 --store memory").unwrap();
         assert_eq!(guard.common.listen, ["0.0.0.0:2809"]);
         assert_eq!(guard.server, ["[::1]:2810"]);
-        assert_eq!(guard.store, "lemonrudder.sqlite");
+        assert_eq!(guard.store, "memory");
         assert_eq!(guard.common.timeout, Duration::from_secs(60));
     }
 
     #[test]
+    fn a_size_has_a_unit() {
+        for (word, octets) in [
+            ("67108864", Some(64 << 20)),
+            ("65536K", Some(64 << 20)),
+            ("64M", Some(64 << 20)),
+            ("2G", Some(2 << 30)),
+            ("0", None),
+            ("G", None),
+            ("1 G", None),
+            ("99999999999999G", None),
+        ] {
+            assert_eq!(size(word).ok(), octets, "{word}");
+        }
+    }
+
+    #[test]
     fn words_count_before_the_file() {
-        let text = "[guard]\nlisten = 'a:1'\nserver = ['b:1', 'c:2']\ntimeout = 0.5\nparked = 7\n";
+        let text = "[guard]\nlisten = 'a:1'\nserver = ['b:1', 'c:2']\nstore = 'memory'\n\
+            timeout = 0.5\nparked = 7\n";
         let file = file("words", text);
         let guard = guard(&format!("guard --config {} --server d:3", file.display())).unwrap();
         assert_eq!(guard.common.listen, ["a:1"]);
         assert_eq!(guard.server, ["d:3"]);
         assert_eq!(guard.common.timeout, Duration::from_millis(500));
-        assert_eq!(guard.parked, 7);
+        assert_eq!(guard.common.limits.parked, 7);
         fs::remove_file(file).unwrap();
     }
 
     #[test]
     fn what_is_missing_is_said() {
         let missing = guard("guard --listen a:1").unwrap_err();
-        assert_eq!(missing, ["server: nothing is said of it"]);
+        assert_eq!(missing, ["server: nothing is said of it", NO_STORE]);
         let missing = Words::read(words("retry --guard a:1")).unwrap_err();
         assert_eq!(missing, ["listen: nothing is said of it"]);
     }
@@ -553,37 +639,45 @@ mod tests {
 
     #[test]
     fn each_fault_has_its_place() {
-        const GOOD: &str = "[guard]\nlisten = 'a:1'\nserver = 'b:2'\n";
+        const GOOD: &str = "[guard]\nlisten = 'a:1'\nserver = 'b:2'\nstore = 'memory'\n";
         for (name, text, faults) in [
             ("good", "", vec![]),
-            ("syntax", "x = \n", vec!["4|"]),
-            ("unknown", "servers = 'c:1'\n", vec!["4|servers: is no setting"]),
-            ("config", "config = 'c'\n", vec!["4|config: is no setting"]),
-            ("boolean", "timeout = true\n", vec!["4|timeout: is no text or number"]),
+            ("syntax", "x = \n", vec!["5|"]),
+            ("unknown", "servers = 'c:1'\n", vec!["5|servers: is no setting"]),
+            ("config", "config = 'c'\n", vec!["5|config: is no setting"]),
+            ("boolean", "timeout = true\n", vec!["5|timeout: is no text or number"]),
             (
                 "values",
                 "timeout = 0\nmetrics = 'here'\nlog = 'loud'\n",
-                vec!["6|--log", "5|--metrics", "4|--timeout"],
+                vec!["7|--log", "6|--metrics", "5|--timeout"],
             ),
-            ("length", "message = 4095\n", vec!["4|--message"]),
+            ("length", "message = 4095\n", vec!["5|--message"]),
+            ("memory", "memory = '63M'\n", vec!["|[guard] memory: has no room"]),
+            ("room", "memory = '20000'\nmessage = 5000\n", vec![]),
+            ("size", "memory = '1T'\n", vec!["5|--memory"]),
             ("alone", "key = 'k'\n", vec!["|--certificate"]),
             (
                 "loop",
                 "[retry]\nlisten = 'c:1'\nguard = 'c:1'\n",
                 vec!["|[retry] guard: it listens itself at c:1"],
             ),
-            ("store", "store = 'postgres://a b:c'\n", vec!["|[guard] store: "]),
-            ("folder", "store = '/nowhere/x'\n", vec!["|[guard] /nowhere/x: "]),
-            ("role", "[gard]\n", vec!["4|[gard] is no role"]),
+            ("role", "[gard]\n", vec!["5|[gard] is no role"]),
             ("other", "[retry]\nlisten = 'a:1'\n", vec!["|[retry] guard: nothing is said"]),
             (
                 "files",
                 "authorities = '/nowhere/x'\n",
                 vec!["|[guard] authorities: without a certificate", "|[guard] /nowhere/x: "],
             ),
-            ("top", "[other.x]\ny = 1\n", vec!["4|[other] is no role"]),
+            ("top", "[other.x]\ny = 1\n", vec!["5|[other] is no role"]),
         ] {
             finds(name, &format!("{GOOD}{text}"), &faults);
+        }
+        for (name, store, fault) in [
+            ("store", "store = 'postgres://a b:c'\n", "|[guard] store: "),
+            ("folder", "store = '/nowhere/x'\n", "|[guard] /nowhere/x: "),
+            ("nowhere", "", "|[guard] store: nothing is said of it"),
+        ] {
+            finds(name, &GOOD.replace("store = 'memory'\n", store), &[fault]);
         }
     }
 

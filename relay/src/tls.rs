@@ -1,26 +1,41 @@
 //! TLS of both sides, by OpenSSL: who is connected shows a certificate, and asks the other for one
 //! where it has authorities.
+//!
+//! What makes TLS may be renewed while it is used: connections that are there go on.
 
+use crate::alerts::Verdict;
 use crate::settings::Tls;
+use crate::wire::locked;
 use openssl::error::ErrorStack;
 use openssl::nid::Nid;
 use openssl::ssl::{
-    SslAcceptor, SslConnector, SslContextBuilder, SslFiletype, SslMethod, SslVerifyMode, SslVersion,
+    Ssl, SslAcceptor, SslConnector, SslContextBuilder, SslFiletype, SslMethod, SslOptions,
+    SslSessionCacheMode, SslVerifyMode, SslVersion,
 };
+use openssl::x509::store::X509StoreBuilder;
+use openssl::x509::verify::X509VerifyFlags;
 use openssl::x509::X509Ref;
+use std::fs;
 use std::io;
 use std::path::Path;
 use std::pin::Pin;
+use std::sync::{Arc, Mutex};
+use std::time::Duration;
+use tokio::io::{copy, sink, AsyncWriteExt};
 use tokio::net::TcpStream;
+use tokio::time::timeout;
 use tokio_openssl::SslStream;
+
+/// How long a peer whose handshake failed has to hear why.
+const LINGER: Duration = Duration::from_secs(1);
 
 /// What makes TLS of connections that are accepted.
 #[derive(Clone)]
-pub struct Acceptor(SslAcceptor);
+pub struct Acceptor(Arc<Mutex<SslAcceptor>>);
 
 /// What makes TLS of connections that are opened.
 #[derive(Clone)]
-pub struct Connector(SslConnector);
+pub struct Connector(Arc<Mutex<SslConnector>>);
 
 /// An error of OpenSSL over a file, in one line.
 fn of_file(file: &Path, error: &ErrorStack) -> String {
@@ -28,8 +43,9 @@ fn of_file(file: &Path, error: &ErrorStack) -> String {
     format!("{}: {}", file.display(), why.unwrap_or("can't be read"))
 }
 
-/// Takes the certificate, the key and the authorities of settings.
+/// Takes the certificate, the key, the authorities and what these revoked of settings.
 fn take(settings: &Tls, context: &mut SslContextBuilder) -> Result<(), String> {
+    let failed = |error: ErrorStack| error.to_string();
     if let Some(file) = &settings.certificate {
         let taken = context.set_certificate_chain_file(file);
         taken.map_err(|error| of_file(file, &error))?;
@@ -39,11 +55,27 @@ fn take(settings: &Tls, context: &mut SslContextBuilder) -> Result<(), String> {
         let taken = taken.and_then(|()| context.check_private_key());
         taken.map_err(|error| of_file(file, &error))?;
     }
+    // (those of the system are none of ours)
+    context.set_cert_store(X509StoreBuilder::new().map_err(failed)?.build());
     if let Some(file) = &settings.authorities {
         context.set_ca_file(file).map_err(|error| of_file(file, &error))?;
     }
-    let least = context.set_min_proto_version(Some(SslVersion::TLS1_2));
-    least.map_err(|error| error.to_string())
+    if let Some(file) = &settings.revoked {
+        take_revoked(file, context)?;
+    }
+    context.set_min_proto_version(Some(SslVersion::TLS1_2)).map_err(failed)
+}
+
+/// Takes lists of what is revoked: from now on each authority has to have one.
+fn take_revoked(file: &Path, context: &mut SslContextBuilder) -> Result<(), String> {
+    let text = fs::read_to_string(file).map_err(|error| format!("{}: {error}", file.display()))?;
+    // (what reads lists reads certificates too, and would trust them)
+    if text.contains("CERTIFICATE-----") {
+        return Err(format!("{}: has a certificate, and not lists alone", file.display()));
+    }
+    context.set_ca_file(file).map_err(|error| of_file(file, &error))?;
+    let flags = X509VerifyFlags::CRL_CHECK | X509VerifyFlags::CRL_CHECK_ALL;
+    context.cert_store_mut().set_flags(flags).map_err(|error| error.to_string())
 }
 
 /// An error of OpenSSL, as one of sockets.
@@ -68,9 +100,16 @@ impl Acceptor {
         if settings.authorities.is_some() {
             builder.set_verify(SslVerifyMode::PEER | SslVerifyMode::FAIL_IF_NO_PEER_CERT);
         }
-        // (a session that is taken up again has to be of this context)
-        builder.set_session_id_context(b"lemonrudder").map_err(|error| error.to_string())?;
-        Ok(Some(Acceptor(builder.build())))
+        // (no session is taken up again: each handshake judges the certificate anew)
+        builder.set_options(SslOptions::NO_TICKET);
+        builder.set_session_cache_mode(SslSessionCacheMode::OFF);
+        Ok(Some(Acceptor(Arc::new(Mutex::new(builder.build())))))
+    }
+
+    /// Connections that come are made by another one from now on.
+    pub fn becomes(&self, other: &Acceptor) {
+        let other = locked(&other.0).clone();
+        *locked(&self.0) = other;
     }
 
     /// The stream of a socket that was accepted, and the names in the certificate that the peer
@@ -83,12 +122,24 @@ impl Acceptor {
         &self,
         socket: TcpStream,
     ) -> io::Result<(SslStream<TcpStream>, Vec<String>)> {
-        let ssl = openssl::ssl::Ssl::new(self.0.context()).map_err(broken)?;
+        let mut ssl = Ssl::new(locked(&self.0).context()).map_err(broken)?;
+        let mode = ssl.verify_mode();
+        let verdict = Verdict::of(&mut ssl, mode);
         let mut stream = SslStream::new(ssl, socket).map_err(broken)?;
-        Pin::new(&mut stream).accept().await.map_err(broken)?;
+        if let Err(error) = Pin::new(&mut stream).accept().await {
+            lingers(stream.get_mut()).await;
+            return Err(verdict.error(&error));
+        }
         let names = stream.ssl().peer_certificate().map(|it| names_of(&it)).unwrap_or_default();
         Ok((stream, names))
     }
+}
+
+/// Takes what a peer still sends, so that it hears why its handshake failed: who closes a socket with
+/// octets in it resets the connection, and the alert may be lost.
+async fn lingers(socket: &mut TcpStream) {
+    _ = socket.shutdown().await;
+    _ = timeout(LINGER, copy(socket, &mut sink())).await;
 }
 
 impl Connector {
@@ -104,7 +155,14 @@ impl Connector {
         let builder = SslConnector::builder(SslMethod::tls_client());
         let mut builder = builder.map_err(|error| error.to_string())?;
         take(settings, &mut builder)?;
-        Ok(Some(Connector(builder.build())))
+        builder.set_options(SslOptions::NO_RENEGOTIATION);
+        Ok(Some(Connector(Arc::new(Mutex::new(builder.build())))))
+    }
+
+    /// Connections that are opened are made by another one from now on.
+    pub fn becomes(&self, other: &Connector) {
+        let other = locked(&other.0).clone();
+        *locked(&self.0) = other;
     }
 
     /// The stream of a socket that was connected to a host, whose certificate has that name.
@@ -113,10 +171,12 @@ impl Connector {
     ///
     /// The handshake failed, or the certificate is not that of the host.
     pub async fn connect(&self, host: &str, socket: TcpStream) -> io::Result<SslStream<TcpStream>> {
-        let configuration = self.0.configure().map_err(broken)?;
-        let ssl = configuration.into_ssl(host).map_err(broken)?;
+        let configuration = locked(&self.0).configure().map_err(broken)?;
+        let mut ssl = configuration.into_ssl(host).map_err(broken)?;
+        let verdict = Verdict::of(&mut ssl, SslVerifyMode::PEER);
         let mut stream = SslStream::new(ssl, socket).map_err(broken)?;
-        Pin::new(&mut stream).connect().await.map_err(broken)?;
+        let connected = Pin::new(&mut stream).connect().await;
+        connected.map_err(|error| verdict.error(&error))?;
         Ok(stream)
     }
 }
@@ -210,7 +270,8 @@ pub mod tests {
     /// Settings by the names of files, of which an empty one is none.
     fn settings(folder: &Path, certificate: &str, key: &str, authorities: &str) -> Tls {
         let file = |name: &str| (!name.is_empty()).then(|| folder.join(name));
-        Tls { certificate: file(certificate), key: file(key), authorities: file(authorities) }
+        let (certificate, key) = (file(certificate), file(key));
+        Tls { certificate, key, authorities: file(authorities), revoked: None }
     }
 
     /// What a guard takes the peer for, and what comes back to it.

@@ -1,10 +1,11 @@
 //! A guard that requests are sent to: whether it can be reached.
 
+use crate::mark::Mark;
 use crate::pool::Pool;
-use crate::wire;
+use crate::wire::{self, locked};
 use lemonrudder::{write, Order, Version};
 use std::io;
-use std::sync::Arc;
+use std::sync::{self, Arc};
 use std::time::Duration;
 use tokio::io::{AsyncReadExt, AsyncWriteExt};
 use tokio::sync::{watch, Mutex};
@@ -27,13 +28,37 @@ pub struct Upstream {
     /// Told, where it can be reached again.
     ups: Arc<watch::Sender<u64>>,
     answered: Mutex<Option<Instant>>,
+    /// What its store is known by, as it told last.
+    mark: sync::Mutex<Option<Mark>>,
 }
 
 impl Upstream {
     /// A guard at an address, of which nothing is known.
     pub fn new(address: String, pool: Arc<Pool>, ups: &Arc<watch::Sender<u64>>) -> Arc<Upstream> {
         let (is_up, ups) = (watch::channel(true).0, ups.clone());
-        Arc::new(Upstream { address, pool, is_up, ups, answered: Mutex::default() })
+        let (answered, mark) = (Mutex::default(), sync::Mutex::default());
+        Arc::new(Upstream { address, pool, is_up, ups, answered, mark })
+    }
+
+    /// Where it is.
+    pub fn address(&self) -> &str {
+        &self.address
+    }
+
+    /// What its store is known by, if it has told.
+    pub fn mark(&self) -> Option<Mark> {
+        locked(&self.mark).clone()
+    }
+
+    /// It has told what its store is known by.
+    pub fn tells(&self, mark: Mark) {
+        *locked(&self.mark) = Some(mark);
+    }
+
+    /// Whether its store may know of what was sent to one of this mark.
+    pub fn may_know(&self, of: Option<&Mark>) -> bool {
+        let mark = locked(&self.mark);
+        of.is_none_or(|of| mark.as_ref().is_none_or(|mark| mark.knows(of)))
     }
 
     /// Its connections.

@@ -1,10 +1,14 @@
 //! A store in memory, which ends with the process.
 
 use super::{Begun, Error, Key, Outcome};
+use crate::mark::{random, Mark};
+use crate::memory::{Account, Held};
 use crate::metrics::{metrics, Step};
 use std::collections::hash_map::{Entry, HashMap};
-use std::sync::{Mutex, MutexGuard, PoisonError};
+use std::sync::atomic::{AtomicBool, Ordering};
+use std::sync::{Arc, Mutex, MutexGuard, OnceLock, PoisonError};
 use tokio::sync::watch;
+use tracing::warn;
 
 /// What is known of a request.
 enum State {
@@ -13,9 +17,14 @@ enum State {
     Done(Outcome),
 }
 
+/// What a row takes beside its key and its outcome.
+const ROW: usize = 256;
+
 struct Row {
     expiration: u64,
     state: State,
+    /// What it takes of memory, where that is counted.
+    held: Option<Held>,
 }
 
 #[derive(Default)]
@@ -27,51 +36,107 @@ struct Rows {
 
 /// A store in memory.
 #[derive(Default)]
-pub struct Memory(Mutex<Rows>);
+pub struct Memory {
+    rows: Mutex<Rows>,
+    mark: Mark,
+    account: OnceLock<Arc<Account>>,
+    /// Whether it was said that it is full.
+    is_full: AtomicBool,
+}
+
+/// Why nothing is found: what tells when to look again; or a new request has no room.
+enum Look {
+    Later(watch::Receiver<()>),
+    Full,
+}
 
 /// What is found of a request that is known, or what tells when to look again.
-fn found(row: &mut Row) -> Result<Begun, watch::Receiver<()>> {
+fn found(row: &mut Row) -> Result<Begun, Look> {
     match &mut row.state {
         State::Done(outcome) => Ok(Begun::Done { outcome: outcome.clone(), is_ours: true }),
-        State::Begun(ended) => Err(ended.get_or_insert_with(|| watch::channel(()).0).subscribe()),
+        State::Begun(ended) => {
+            Err(Look::Later(ended.get_or_insert_with(|| watch::channel(()).0).subscribe()))
+        }
     }
 }
 
+fn full() -> Error {
+    Error::Away("no more outcomes have room".into())
+}
+
 impl Memory {
+    /// One that has nothing.
+    ///
+    /// # Errors
+    ///
+    /// The system has no random numbers.
+    pub fn open() -> std::io::Result<Memory> {
+        let mark = Mark { store: random()?, ..Mark::default() };
+        Ok(Memory { mark, ..Memory::default() })
+    }
+
+    /// What it is known by.
+    pub fn mark(&self) -> Mark {
+        self.mark.clone()
+    }
+
+    /// Has what it keeps counted.
+    pub fn holds(&self, account: Arc<Account>) {
+        _ = self.account.set(account);
+    }
+
+    /// Whether it keeps no more.
+    fn is_full(&self) -> bool {
+        let is_full = self.account.get().is_some_and(|account| account.is_over());
+        if is_full && !self.is_full.swap(is_full, Ordering::Relaxed) {
+            warn!("no more outcomes have room in memory until some expire");
+        }
+        is_full
+    }
+
     fn rows(&self) -> MutexGuard<'_, Rows> {
-        self.0.lock().unwrap_or_else(PoisonError::into_inner)
+        self.rows.lock().unwrap_or_else(PoisonError::into_inner)
     }
 
     /// What is found at once, or what tells when to look again.
-    fn look(&self, key: &Key, expiration: u64) -> Result<Begun, watch::Receiver<()>> {
+    fn look(&self, key: &Key, expiration: u64) -> Result<Begun, Look> {
         let _takes = metrics().takes(Step::Begin);
         let mut rows = self.rows();
         let least = rows.least;
         let entry = match rows.rows.entry(key.clone()) {
             Entry::Occupied(row) => return found(row.into_mut()),
             Entry::Vacant(_) if expiration < least => return Ok(Begun::Expired),
+            Entry::Vacant(_) if self.is_full() => return Err(Look::Full),
             Entry::Vacant(entry) => entry,
         };
-        entry.insert(Row { expiration, state: State::Begun(None) });
+        let held = self.account.get().map(|account| account.hold(ROW + key.client.len()));
+        entry.insert(Row { expiration, state: State::Begun(None), held });
         Ok(Begun::New)
     }
 
     pub async fn begin(&self, key: &Key, expiration: u64) -> Result<Begun, Error> {
         match self.look(key, expiration) {
             Ok(begun) => Ok(begun),
-            Err(ended) => Ok(Box::pin(self.waits(key, expiration, ended)).await),
+            Err(Look::Full) => Err(full()),
+            Err(Look::Later(ended)) => Box::pin(self.waits(key, expiration, ended)).await,
         }
     }
 
     /// Looks again, each time that it is told.
-    async fn waits(&self, key: &Key, expiration: u64, mut ended: watch::Receiver<()>) -> Begun {
+    async fn waits(
+        &self,
+        key: &Key,
+        expiration: u64,
+        mut ended: watch::Receiver<()>,
+    ) -> Result<Begun, Error> {
         loop {
             let waits = metrics().waits();
             _ = ended.changed().await;
             drop(waits);
             match self.look(key, expiration) {
-                Ok(begun) => return begun,
-                Err(again) => ended = again,
+                Ok(begun) => return Ok(begun),
+                Err(Look::Full) => return Err(full()),
+                Err(Look::Later(again)) => ended = again,
             }
         }
     }
@@ -82,6 +147,9 @@ impl Memory {
         let row = rows.rows.get_mut(key).ok_or(Error::Forgotten)?;
         if let State::Done(outcome) = &row.state {
             return Ok(outcome.clone());
+        }
+        if let Some(held) = &mut row.held {
+            held.add(outcome.body.len());
         }
         row.state = State::Done(outcome.clone());
         Ok(outcome)

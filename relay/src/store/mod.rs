@@ -5,14 +5,20 @@
 //! *undone* where nothing was sent. What expired is *purged*, and the greatest expiration that was
 //! taken out, plus 1, is kept as W: what expires before W, and is not there, is refused.
 
+mod files;
+mod identity;
+pub mod looked;
 mod memory;
 mod postgres;
 mod secured;
 mod sqlite;
+mod tables;
 #[cfg(test)]
 mod tests;
 mod writer;
 
+use crate::mark::Mark;
+use crate::memory::Account;
 use memory::Memory;
 use postgres::Postgres;
 use sqlite::Sqlite;
@@ -22,6 +28,7 @@ use lemonrudder::cdr::Writer;
 use lemonrudder::{Completed, Order, Status};
 use std::fmt;
 use std::path::Path;
+use std::sync::Arc;
 use std::time::Duration;
 
 /// What a request is known by: the client id and the retention id of its FT_REQUEST.
@@ -121,7 +128,8 @@ impl Store {
     /// `Unusable`: it can't be opened.
     pub async fn open(words: &str, lease: Duration) -> Result<Store, Error> {
         if words == "memory" {
-            return Ok(Store::Memory(Memory::default()));
+            let store = Memory::open().map_err(|error| Error::Unusable(error.to_string()))?;
+            return Ok(Store::Memory(store));
         }
         let name = words.to_owned();
         let steps = if is_address(words) {
@@ -201,6 +209,22 @@ impl Store {
         match self {
             Store::Memory(store) => Ok(store.purge(now)),
             Store::Written(steps) => Box::pin(steps.purge(now)).await,
+        }
+    }
+
+    /// What it is known by, once it was reached.
+    #[must_use]
+    pub fn mark(&self) -> Option<Mark> {
+        match self {
+            Store::Memory(store) => Some(store.mark()),
+            Store::Written(steps) => steps.mark(),
+        }
+    }
+
+    /// Has what it keeps in memory counted, if it does.
+    pub fn holds(&self, account: Arc<Account>) {
+        if let Store::Memory(store) = self {
+            store.holds(account);
         }
     }
 

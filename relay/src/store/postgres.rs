@@ -8,6 +8,7 @@
 use super::secured::Secured;
 use super::writer::{Database, Done, Step};
 use super::{Begun, Error, Key, Outcome};
+use crate::mark::{random, Mark, Random};
 use futures_util::future::{poll_fn, try_join_all};
 use lemonrudder::Order;
 use std::cell::Cell;
@@ -55,6 +56,20 @@ const TABLES: &str = "
         WHERE NOT EXISTS (SELECT 1 FROM lemonrudder.mark);
     COMMIT;
 ";
+/// What the store is known by, as it was drawn here.
+const IDENTITY: &str = "
+    BEGIN;
+    SELECT pg_advisory_xact_lock(1280463732, 2);
+    CREATE TABLE IF NOT EXISTS lemonrudder.identity (store bytea NOT NULL);
+    INSERT INTO lemonrudder.identity SELECT '\\x{drawn}' WHERE NOT EXISTS (SELECT 1 FROM lemonrudder.identity);
+    COMMIT;
+";
+/// .. and as it is another one in another cluster, once a standby has taken over, after a recovery to an
+/// earlier moment, and where the table was made anew from a dump.
+const MARK: &str = "SELECT substring(sha256(convert_to(concat_ws(' ', encode(store, 'hex'),
+        (SELECT system_identifier FROM pg_control_system()),
+        left(pg_walfile_name(pg_current_wal_lsn()), 8),
+        'lemonrudder.identity'::regclass::oid), 'UTF8')) FOR 16) FROM lemonrudder.identity";
 const LISTEN: &str = "LISTEN lemonrudder";
 const NOTIFY: &str = "NOTIFY lemonrudder";
 /// Another connection of this guard's ends, with what it had under way.
@@ -131,6 +146,8 @@ pub struct Postgres {
     /// The number of this guard's life, once it has one.
     guard: Option<i64>,
     link: Option<Link>,
+    /// What it is known by, as of the last session.
+    mark: Option<Mark>,
     /// The session before, which may have something under way.
     before: Option<(i32, String)>,
     renewed: Instant,
@@ -185,15 +202,23 @@ async fn statements(client: &Client) -> Result<Statements, Failure> {
     })
 }
 
-/// Makes the tables where there are none, and answers the version of those that are there.
-async fn prepare(client: &Client) -> Result<i32, Failure> {
+/// Makes the tables where there are none, and answers the version of those that are there, and what
+/// the store is known by: as it was made, or as it is drawn.
+async fn prepare(client: &Client, drawn: Random) -> Result<(i32, Mark), Failure> {
     client.batch_execute(SESSION).await?;
     let known = client.query_one("SELECT to_regclass('lemonrudder.mark') IS NOT NULL", &[]).await?;
     if !known.get::<_, bool>(0) {
         client.batch_execute(TABLES).await?;
     }
     let version = client.query_one("SELECT version FROM lemonrudder.mark", &[]).await?;
-    version.try_get(0)
+    let known = "SELECT to_regclass('lemonrudder.identity') IS NOT NULL";
+    if !client.query_one(known, &[]).await?.get::<_, bool>(0) {
+        let drawn: String = drawn.iter().map(|octet| format!("{octet:02x}")).collect();
+        client.batch_execute(&IDENTITY.replace("{drawn}", &drawn)).await?;
+    }
+    let row = client.query_one(MARK, &[]).await?;
+    let store = row.try_get::<_, Vec<u8>>(0)?.try_into().unwrap_or_default();
+    Ok((version.try_get(0)?, Mark { store, ..Mark::default() }))
 }
 
 /// Ends a session of this guard's that may have something under way, and waits until it has ended.
@@ -360,8 +385,8 @@ impl Postgres {
         config.connect_timeout(PATIENCE);
         let (tells, news) = watch::channel(());
         let (tells, now) = (Arc::new(tells), Instant::now());
-        let (guard, link, before) = (None, None, None);
-        Ok(Postgres { config, lease, guard, link, before, renewed: now, tells, news, looked: now })
+        let (guard, link, mark, before, renewed, looked) = (None, None, None, None, now, now);
+        Ok(Postgres { config, lease, guard, link, mark, before, renewed, tells, news, looked })
     }
 
     /// A session: over TLS, where the address says so.
@@ -382,11 +407,14 @@ impl Postgres {
     /// Connects, takes up this guard's life, and ends what the session before had under way.
     async fn connect(&mut self) -> Result<Link, Error> {
         let client = self.session().await?;
-        let version = prepare(&client).await.map_err(|error| away(&error))?;
+        let drawn = random().map_err(|error| Error::Away(error.to_string()))?;
+        let prepared = prepare(&client, drawn).await;
+        let (version, mark) = prepared.map_err(|error| away(&error))?;
         if version != VERSION {
             let why = format!("PostgreSQL: its tables are of version {version}, not {VERSION}");
             return Err(Error::Unusable(why));
         }
+        self.mark = Some(mark);
         self.live(client).await.map_err(|error| away(&error))
     }
 
@@ -437,6 +465,10 @@ impl Postgres {
 }
 
 impl Database for Postgres {
+    fn mark(&self) -> Option<Mark> {
+        self.mark.clone()
+    }
+
     async fn write(&mut self, steps: &[&Step]) -> Result<Vec<Done>, Error> {
         self.transact(steps).await
     }
@@ -457,4 +489,6 @@ impl Database for Postgres {
         }
         looks
     }
+
+    fn close(self) {}
 }

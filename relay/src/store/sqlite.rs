@@ -1,45 +1,45 @@
-//! A store in a SQLite file, for one guard at a time: it has the file for itself as long as it
-//! lives. So what was begun when it is opened was begun by a guard that lives no more.
+//! A store in a SQLite file, for one guard at a time: it has the file's claim as long as it lives.
+//! So what was begun when it is opened was begun by a guard that lives no more. Others may read it.
 
+use super::files::Claim;
+use super::identity::{counts, Identity};
+use super::tables::{self, number, SHORT};
 use super::writer::{Database, Done, Step};
 use super::{Begun, Error, Key, Outcome};
+use crate::mark::Mark;
 use lemonrudder::Order;
 use rusqlite::{
     params, Connection, OptionalExtension, Result, Row, Transaction, TransactionBehavior,
 };
 use std::future::pending;
 use std::path::{Path, PathBuf};
-use tracing::warn;
+use std::time::Duration;
+use tracing::{error, warn};
 
-/// What the file says that it is: of this program, in this version.
-const APPLICATION: i32 = 0x4c52_5374;
-const VERSION: i32 = 2;
-/// Rows that one transaction takes out at most.
+/// Rows that one transaction takes out at most, and pages that it gives back.
 const CHUNK: u64 = 1000;
+const PAGES: i64 = 1000;
+/// Pages that may be free beside as many as are used.
+const SPARE: i64 = 256;
+/// How long is waited at the end for others who read.
+const READERS: Duration = Duration::from_secs(1);
+/// Octets of the write-ahead log that stay once it is in the file.
+const LOG: i64 = 1 << 24;
 
-/// A row without a status is begun, in the life of a guard that it names. Moments are eight octets
-/// in big order.
-const TABLES: &str = "
-    CREATE TABLE outcome (
-        client BLOB NOT NULL, number INTEGER NOT NULL, expiration BLOB NOT NULL,
-        life INTEGER NOT NULL, status INTEGER, body_order INTEGER, place INTEGER, body BLOB,
-        PRIMARY KEY (client, number)
-    ) WITHOUT ROWID;
-    CREATE INDEX outcome_by_expiration ON outcome (expiration) WHERE status IS NOT NULL;
-    CREATE TABLE mark (least BLOB NOT NULL, life INTEGER NOT NULL);
-    INSERT INTO mark VALUES (x'0000000000000000', 0);
-";
-const FIND: &str = "SELECT status, body_order, place, body, life FROM outcome
-    WHERE client = ?1 AND number = ?2";
+const FIND: &str = "SELECT status, body_order, place,
+        coalesce(body, (SELECT octets FROM bodies WHERE bodies.id = outcome.id)), life
+    FROM outcome WHERE client = ?1 AND number = ?2";
 const LEAST: &str = "SELECT least FROM mark";
 const BEGIN: &str =
     "INSERT INTO outcome (client, number, expiration, life) VALUES (?1, ?2, ?3, ?4)";
 const FINISH: &str = "UPDATE outcome SET status = ?3, body_order = ?4, place = ?5, body = ?6
-    WHERE client = ?1 AND number = ?2 AND status IS NULL";
+    WHERE client = ?1 AND number = ?2 AND status IS NULL RETURNING id";
+const BODY: &str = "INSERT INTO bodies VALUES (?1, ?2)";
 const UNDO: &str = "DELETE FROM outcome WHERE client = ?1 AND number = ?2 AND status IS NULL";
-const EXPIRED: &str = "SELECT expiration, client, number FROM outcome
+const EXPIRED: &str = "SELECT expiration, id FROM outcome
     WHERE status IS NOT NULL AND expiration < ?1 ORDER BY expiration LIMIT ?2";
-const TAKE_OUT: &str = "DELETE FROM outcome WHERE client = ?1 AND number = ?2";
+const TAKE_OUT: [&str; 2] =
+    ["DELETE FROM outcome WHERE id = ?1", "DELETE FROM bodies WHERE id = ?1"];
 const RAISE: &str = "UPDATE mark SET least = max(least, ?1)";
 const LOST: &str = "UPDATE outcome SET status = ?1, body_order = ?2, place = ?3, body = ?4
     WHERE status IS NULL";
@@ -51,6 +51,8 @@ pub struct Sqlite {
     path: PathBuf,
     /// The number of this guard's life.
     life: i64,
+    _claim: Claim,
+    identity: Identity,
 }
 
 /// What a row says, and in which life it was begun: no outcome where it is not done.
@@ -97,8 +99,14 @@ fn begin(with: &Transaction<'_>, life: i64, key: &Key, expiration: u64) -> Resul
 
 fn finish(with: &Transaction<'_>, key: &Key, outcome: &Outcome) -> Result<Done> {
     let Outcome { status, place, body, .. } = outcome;
-    let values = params![key.client, key.number, status, order_of(outcome), place, body];
-    if execute(with, FINISH, values)? == 1 {
+    let short = Some(body).filter(|body| body.len() <= SHORT);
+    let values = params![key.client, key.number, status, order_of(outcome), place, short];
+    let mut finish = with.prepare_cached(FINISH)?;
+    let id: Option<i64> = finish.query_row(values, |row| row.get(0)).optional()?;
+    if let Some(id) = id {
+        if short.is_none() {
+            execute(with, BODY, params![id, body])?;
+        }
         return Ok(Done::Finished(Ok(outcome.clone())));
     }
     let found = find(with, key)?.and_then(|(outcome, _)| outcome);
@@ -106,21 +114,38 @@ fn finish(with: &Transaction<'_>, key: &Key, outcome: &Outcome) -> Result<Done> 
 }
 
 fn purge(with: &Transaction<'_>, now: u64, before: u64) -> Result<Done> {
-    let of_row = |row: &Row<'_>| {
-        let key = Key { client: row.get(1)?, number: row.get(2)? };
-        Ok((u64::from_be_bytes(row.get(0)?), key))
-    };
+    let of_row = |row: &Row<'_>| Ok((u64::from_be_bytes(row.get(0)?), row.get::<_, i64>(1)?));
     let mut expired = with.prepare_cached(EXPIRED)?;
     let rows = expired.query_map(params![now.to_be_bytes(), CHUNK], of_row)?;
     let rows = rows.collect::<Result<Vec<_>>>()?;
-    for (_, key) in &rows {
-        execute(with, TAKE_OUT, params![key.client, key.number])?;
+    for (_, id) in &rows {
+        for words in TAKE_OUT {
+            execute(with, words, [id])?;
+        }
     }
     if let Some((last, _)) = rows.last() {
         execute(with, RAISE, params![(last + 1).to_be_bytes()])?;
     }
     let count = rows.len() as u64;
-    Ok(Done::Purged(before + count, count == CHUNK))
+    let is_more = give_back(with)?;
+    Ok(Done::Purged(before + count, count == CHUNK || is_more))
+}
+
+/// How many pages are free beyond as many as are used, and some.
+fn spare(with: &Transaction<'_>) -> Result<i64> {
+    Ok(2 * number(with, "freelist_count")? - number(with, "page_count")? - SPARE)
+}
+
+/// Gives pages that nothing needs back to the system, some at once: whether there are more. (What
+/// goes is soon followed by as much that comes, so many stay.)
+fn give_back(with: &Transaction<'_>) -> Result<bool> {
+    let pages = spare(with)?;
+    if pages <= 0 {
+        return Ok(false);
+    }
+    with.pragma(None, "incremental_vacuum", pages.min(PAGES), |_| Ok(()))?;
+    let left = spare(with)?;
+    Ok(left > 0 && left < pages)
 }
 
 fn take(with: &Transaction<'_>, life: i64, step: &Step) -> Result<Done> {
@@ -135,34 +160,16 @@ fn take(with: &Transaction<'_>, life: i64, step: &Step) -> Result<Done> {
     }
 }
 
-/// Makes the tables of a new file, or finds that it is one of this program's; and has what was
-/// begun in it done. Answers how many that were, and the number of this guard's life.
-fn prepare(link: &mut Connection) -> Result<std::result::Result<(usize, i64), &'static str>> {
-    link.pragma_update(None, "locking_mode", "EXCLUSIVE")?;
-    // (the first thing that is read, and that takes the file for this guard)
-    let with = link.transaction_with_behavior(TransactionBehavior::Exclusive)?;
-    let number = |name| with.pragma_query_value(None, name, |row| row.get::<_, i32>(0));
-    match (number("application_id")?, number("user_version")?) {
-        (APPLICATION, VERSION) => {}
-        (APPLICATION, _) => return Ok(Err("is a store of another version of this program")),
-        _ => {
-            let count = "SELECT count(*) FROM sqlite_master";
-            if with.query_row(count, [], |row| row.get::<_, i32>(0))? != 0 {
-                return Ok(Err("is a database of another program"));
-            }
-            with.execute_batch(TABLES)?;
-            with.pragma_update(None, "application_id", APPLICATION)?;
-            with.pragma_update(None, "user_version", VERSION)?;
-        }
-    }
+/// Has what was begun in a file done, which is lost. Answers how many those were, and the number of
+/// this guard's life.
+fn begins_life(link: &mut Connection) -> Result<(usize, i64)> {
+    let with = link.transaction_with_behavior(TransactionBehavior::Immediate)?;
     let maybe = Outcome::maybe();
     let values = params![maybe.status, order_of(&maybe), maybe.place, maybe.body];
     let lost = with.execute(LOST, values)?;
     let life = with.query_row(LIVE, [], |row| row.get(0))?;
     with.commit()?;
-    link.pragma_update(None, "journal_mode", "WAL")?;
-    link.pragma_update(None, "synchronous", "FULL")?;
-    Ok(Ok((lost, life)))
+    Ok((lost, life))
 }
 
 impl Sqlite {
@@ -175,16 +182,26 @@ impl Sqlite {
     pub fn open(path: &Path) -> std::result::Result<Sqlite, Error> {
         let say =
             |why: &dyn std::fmt::Display| Error::Unusable(format!("{}: {why}", path.display()));
+        let claim = Claim::of(path).map_err(|why| say(&why))?;
         let mut link = Connection::open(path).map_err(|error| say(&error))?;
-        let prepared = prepare(&mut link).map_err(|error| say(&error))?;
-        let (lost, life) = prepared.map_err(|why| say(&why))?;
+        let opened = tables::open(&mut link).map_err(|error| say(&error))?;
+        opened.map_err(|why| say(&why))?;
+        claim.closes_to_others().map_err(|error| say(&error))?;
+        if let Err(error) = tables::loosen(&link) {
+            warn!("{}: what is free in it is not given back: {error}", path.display());
+        }
+        let (lost, life) = begins_life(&mut link).map_err(|error| say(&error))?;
         if lost > 0 {
             warn!("{}: {lost} requests were under way when the guard was lost", path.display());
         }
-        Ok(Sqlite { link, path: path.to_owned(), life })
+        link.pragma_update(None, "journal_size_limit", LOG).map_err(|error| say(&error))?;
+        let number = u32::try_from(life).unwrap_or(u32::MAX);
+        let identity = Identity::open(&mut link, path, number)?;
+        Ok(Sqlite { link, path: path.to_owned(), life, identity, _claim: claim })
     }
 
-    fn transact(&mut self, steps: &[&Step]) -> Result<Vec<Done>> {
+    /// Takes steps in one transaction: what comes of them, and its number, where it begins any.
+    fn transact(&mut self, steps: &[&Step]) -> Result<(Vec<Done>, Option<i64>)> {
         let with = self.link.transaction_with_behavior(TransactionBehavior::Immediate)?;
         let mut order: Vec<usize> = (0..steps.len()).collect();
         // (what is to be undone was begun before what is to be begun)
@@ -197,16 +214,25 @@ impl Sqlite {
             // (whether it can be written is to show)
             execute(&with, RAISE, params![0_u64.to_be_bytes()])?;
         }
+        let begins = dones.iter().any(|(_, done)| matches!(done, Done::Begun(Begun::New)));
+        let count = begins.then(|| counts(&with)).transpose()?;
         with.commit()?;
         dones.sort_by_key(|(index, _)| *index);
-        Ok(dones.into_iter().map(|(_, done)| done).collect())
+        Ok((dones.into_iter().map(|(_, done)| done).collect(), count))
     }
 }
 
 impl Database for Sqlite {
     async fn write(&mut self, steps: &[&Step]) -> std::result::Result<Vec<Done>, Error> {
         let path = self.path.display().to_string();
-        self.transact(steps).map_err(|error| Error::Away(format!("{path}: {error}")))
+        let away = |error: &dyn std::fmt::Display| Error::Away(format!("{path}: {error}"));
+        let (dones, count) = self.transact(steps).map_err(|error| away(&error))?;
+        count.map_or(Ok(()), |count| self.identity.notes(count)).map_err(|error| away(&error))?;
+        Ok(dones)
+    }
+
+    fn mark(&self) -> Option<Mark> {
+        Some(self.identity.mark.clone())
     }
 
     async fn told(&mut self) {
@@ -215,6 +241,18 @@ impl Database for Sqlite {
 
     fn is_told(&mut self) -> bool {
         false
+    }
+
+    /// Has the file have all: what others read meanwhile stays beside it until they are done.
+    fn close(self) {
+        let path = self.path.display();
+        _ = self.link.busy_timeout(READERS);
+        let moved = self.link.query_row("PRAGMA wal_checkpoint(TRUNCATE)", [], |row| row.get(0));
+        match (moved, self.link.close()) {
+            (Ok(0), Ok(())) => {}
+            (Ok(_), Ok(())) => warn!("{path}: others read it, and {path}-wal stays until they end"),
+            (Err(error), _) | (_, Err((_, error))) => error!("{path}: it is not closed: {error}"),
+        }
     }
 }
 

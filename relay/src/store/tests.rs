@@ -4,6 +4,7 @@ use super::memory::Memory;
 use super::sqlite::Sqlite;
 use super::writer::{self, Database, Done, Step};
 use super::{Begun, Error, Key, Outcome, Store};
+use crate::mark::Mark;
 use futures_util::future::select_all;
 use lemonrudder::Order;
 use std::collections::VecDeque;
@@ -14,6 +15,8 @@ use std::time::Duration;
 use tokio::sync::Semaphore;
 use tokio::task::{spawn, yield_now, JoinHandle};
 
+mod files;
+mod identity;
 mod postgres;
 
 /// A lease that no test outlives.
@@ -71,7 +74,7 @@ const STEPS: &str = "
 fn file(name: &str) -> PathBuf {
     let name = format!("lemonrudder-{}-{name}.sqlite", std::process::id());
     let file = std::env::temp_dir().join(name);
-    for more in ["", "-wal", "-shm", "-journal"] {
+    for more in ["", "-wal", "-shm", "-journal", "-guard"] {
         _ = std::fs::remove_file(format!("{}{more}", file.display()));
     }
     file
@@ -250,7 +253,7 @@ async fn a_file_that_is_no_store_is_said_in_a_line() {
     let taken = file("taken");
     let _first = over_file(&taken).await;
     for (file, why) in [
-        (PathBuf::from("/nowhere/there"), "unable to open"),
+        (PathBuf::from("/nowhere/there"), "No such file"),
         (text, "file is not a database"),
         (other("CREATE TABLE some (one)", "other"), "of another program"),
         (
@@ -310,8 +313,16 @@ impl Database for Flaky {
         self.sqlite.told().await;
     }
 
+    fn mark(&self) -> Option<Mark> {
+        self.sqlite.mark()
+    }
+
     fn is_told(&mut self) -> bool {
         false
+    }
+
+    fn close(self) {
+        self.sqlite.close();
     }
 }
 

@@ -2,13 +2,15 @@
 //! one transaction. Who comes while one is being written waits for the next.
 
 use super::{Begun, Error, Key, Outcome};
+use crate::mark::Mark;
 use crate::metrics::{self, metrics, Takes, Waits};
+use crate::wire::locked;
 use std::collections::{HashMap, HashSet, VecDeque};
 use std::future::Future;
 use std::iter;
 use std::mem;
 use std::sync::atomic::{AtomicBool, Ordering};
-use std::sync::Arc;
+use std::sync::{Arc, Mutex};
 use std::thread;
 use std::time::Duration;
 use tokio::runtime::Builder;
@@ -64,6 +66,12 @@ pub trait Database {
 
     /// Whether it is to be looked at by now.
     fn is_told(&mut self) -> bool;
+
+    /// What it is known by, once it was reached.
+    fn mark(&self) -> Option<Mark>;
+
+    /// Ends it: what was written is where it is to be.
+    fn close(self);
 }
 
 /// What a caller is given of its step.
@@ -123,7 +131,14 @@ impl Drop for Held {
 /// What gives steps to a writer.
 pub struct Steps {
     jobs: UnboundedSender<Job>,
-    is_ready: Arc<AtomicBool>,
+    known: Arc<Known>,
+}
+
+/// What is known of a database without asking it.
+#[derive(Default)]
+struct Known {
+    is_ready: AtomicBool,
+    mark: Mutex<Option<Mark>>,
 }
 
 impl Steps {
@@ -169,7 +184,11 @@ impl Steps {
     }
 
     pub fn is_ready(&self) -> bool {
-        self.is_ready.load(Ordering::Relaxed)
+        self.known.is_ready.load(Ordering::Relaxed)
+    }
+
+    pub fn mark(&self) -> Option<Mark> {
+        locked(&self.known.mark).clone()
     }
 }
 
@@ -193,8 +212,8 @@ pub async fn start<D: Database>(
 ) -> Result<Steps, Error> {
     let (jobs, waiting) = unbounded_channel();
     let (opened, answer) = oneshot::channel();
-    let is_ready = Arc::new(AtomicBool::new(false));
-    let steps = Steps { jobs: jobs.clone(), is_ready: is_ready.clone() };
+    let known = Arc::<Known>::default();
+    let steps = Steps { jobs: jobs.clone(), known: known.clone() };
     let unusable = |error: &dyn std::error::Error| Error::Unusable(error.to_string());
     let runtime = Builder::new_current_thread().enable_all().build();
     let runtime = runtime.map_err(|error| unusable(&error))?;
@@ -202,9 +221,13 @@ pub async fn start<D: Database>(
         let _entered = runtime.enter();
         match open() {
             Ok(database) => {
-                let writer = Writer::new(database, jobs, is_ready);
+                let writer = Writer::new(database, jobs, known);
                 _ = opened.send(Ok(()));
-                runtime.block_on(writer.run(waiting));
+                let (database, closers) = runtime.block_on(writer.run(waiting));
+                database.close();
+                for closer in closers {
+                    closer.tell(Ok((Done::Closed, None)));
+                }
             }
             Err(error) => _ = opened.send(Err(error)),
         }
@@ -223,7 +246,7 @@ fn precise(count: usize) -> f64 {
 struct Writer<D> {
     database: D,
     jobs: UnboundedSender<Job>,
-    is_ready: Arc<AtomicBool>,
+    known: Arc<Known>,
     /// What comes next.
     queue: VecDeque<Job>,
     /// Who wait for what another request or guard has begun.
@@ -237,14 +260,17 @@ struct Writer<D> {
     all: usize,
     until: Instant,
     is_closed: bool,
+    /// Who closes it: they are told once it is closed.
+    closers: Vec<Job>,
 }
 
 impl<D: Database> Writer<D> {
-    fn new(database: D, jobs: UnboundedSender<Job>, is_ready: Arc<AtomicBool>) -> Writer<D> {
+    fn new(database: D, jobs: UnboundedSender<Job>, known: Arc<Known>) -> Writer<D> {
+        *locked(&known.mark) = database.mark();
         Writer {
             database,
             jobs,
-            is_ready,
+            known,
             queue: VecDeque::new(),
             waiting: HashMap::new(),
             begun: HashSet::new(),
@@ -253,10 +279,12 @@ impl<D: Database> Writer<D> {
             all: 0,
             until: Instant::now(),
             is_closed: false,
+            closers: Vec::new(),
         }
     }
 
-    async fn run(mut self, mut jobs: UnboundedReceiver<Job>) {
+    /// Takes steps until it is to be closed: then gives the database back, and who is to be told.
+    async fn run(mut self, mut jobs: UnboundedReceiver<Job>) -> (D, Vec<Job>) {
         // (what is wrong shows before anybody asks)
         self.write(Vec::new()).await;
         while !self.is_closed {
@@ -286,6 +314,7 @@ impl<D: Database> Writer<D> {
             self.all = told + self.queue.len();
             self.until = Instant::now() + began.elapsed() / PART;
         }
+        (self.database, self.closers)
     }
 
     /// Takes the steps that have come.
@@ -310,15 +339,12 @@ impl<D: Database> Writer<D> {
 
     /// Tells those who need the database now that it is away. What is begun waits.
     fn decline(&mut self) {
-        let Some(why) = &self.trouble else { return };
+        let Some(why) = self.trouble.clone() else { return };
         for job in mem::take(&mut self.queue) {
             match job.step {
                 Step::Finish(..) | Step::Undo(_) => self.queue.push_back(job),
                 Step::Begin(..) | Step::Purge(..) => job.tell(Err(why.clone())),
-                Step::Close => {
-                    self.is_closed = true;
-                    job.tell(Ok((Done::Closed, None)));
-                }
+                Step::Close => self.closes(job),
             }
         }
     }
@@ -335,7 +361,9 @@ impl<D: Database> Writer<D> {
                 if self.trouble.take().is_some() {
                     info!("the store can be written again");
                 }
-                self.is_ready.store(true, Ordering::Relaxed);
+                self.known.is_ready.store(true, Ordering::Relaxed);
+                // (before anybody is told of what it has taken)
+                *locked(&self.known.mark) = self.database.mark();
                 for (job, done) in batch.into_iter().zip(dones) {
                     self.done(job, done);
                 }
@@ -344,7 +372,7 @@ impl<D: Database> Writer<D> {
                 if self.trouble.as_ref() != Some(&why) {
                     error!("the store: {why}");
                 }
-                self.is_ready.store(false, Ordering::Relaxed);
+                self.known.is_ready.store(false, Ordering::Relaxed);
                 self.failed(batch);
                 self.trouble = Some(why);
                 self.next = Instant::now() + PAUSE;
@@ -380,10 +408,16 @@ impl<D: Database> Writer<D> {
                 self.queue.push_back(job);
                 return;
             }
-            (Step::Close, _) => self.is_closed = true,
+            (Step::Close, _) => return self.closes(job),
             _ => {}
         }
         job.tell(Ok((done, held)));
+    }
+
+    /// This is the last step.
+    fn closes(&mut self, job: Job) {
+        self.is_closed = true;
+        self.closers.push(job);
     }
 
     /// Steps of which it is not known whether they were taken. They come again: those that begin

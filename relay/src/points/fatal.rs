@@ -1,4 +1,4 @@
-//! Named points at which the program aborts or stops, for tests of what others do then.
+//! What is done at a point that the environment names.
 
 use std::env;
 use std::process::{abort, id, Command};
