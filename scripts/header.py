@@ -53,7 +53,7 @@ FAMILIES = [
     Family("LR_SET_", "u32", "ServerSetting"), Family("LR_COUNT_", "u32", "Counted"),
     Family("LR_CLIENT_", "u32", "ClientSetting"), Family("LR_ENDED_", "u32", "Ended"),
     Family("LR_FAULT_", "u32", "Fault"), Family("LR_WHY_", "u32", "Why", "LR_FAULT_"),
-    Family("LR_MSG_", "u32", "MessageType"), Family("LR_IOR_", "u32", "IorPart"),
+    Family("LR_CUTS_", "u32", "Cuts"), Family("LR_MSG_", "u32", "MessageType"), Family("LR_IOR_", "u32", "IorPart"),
 ]
 
 

@@ -20,6 +20,8 @@ from scripts.kit import cache
 QUIET = 30
 # what a part takes that was never run, in seconds
 UNKNOWN = 20
+# how much of a processor has to be idle for one more part to begin, and how many run at most for each processor
+IDLE, EACH = 0.25, 2
 # a part that ran nothing since a tool is missing says so in a line that has this
 SKIPPED = ": this needs "
 
@@ -34,8 +36,9 @@ class Part:
     after: tuple[str, ...] = ()
     makes: bool = False
     env: dict[str, str] = field(default_factory=dict)
-    # set by the run
+    # set by the run: how long it took, and what of that a processor was busy
     took: float = 0.0
+    busy: float = 0.0
     passed: int = 0
     failed: int = 0
     is_well: bool = False
@@ -46,23 +49,29 @@ def processors() -> int:
 
 
 class Took:
-    """What parts took in the last run on this machine, or else in that of which the repository has the figures."""
+    """What parts took in the last run on this machine, or else in that of which the repository has the figures: how long,
+    and how long a processor was busy with it."""
 
     def __init__(self, noted: str) -> None:
-        self.path = os.path.join(cache(), "took.json")
-        self.seconds: dict[str, float] = {}
+        self.path = os.path.join(cache(), "parts.json")
+        self.seconds: dict[str, tuple[float, float]] = {}
         with open(noted, encoding="utf-8") as lines:
             for line in lines:
-                name, _, seconds = line.strip().rpartition(" ")
-                self.seconds[name] = float(seconds)
+                name, took, busy = line.rsplit(maxsplit=2)
+                self.seconds[name] = float(took), float(busy)
         with contextlib.suppress(OSError, ValueError), open(self.path, encoding="utf-8") as file:
-            self.seconds.update(json.load(file))
+            self.seconds.update({name: (took, busy) for name, (took, busy) in json.load(file).items()})
 
     def of(self, part: Part) -> float:
-        return self.seconds.get(part.name, UNKNOWN)
+        return self.seconds.get(part.name, (UNKNOWN, UNKNOWN))[0]
+
+    def share(self, part: Part) -> float:
+        """How much of a processor a part takes: all of it, but where it waits."""
+        took, busy = self.seconds.get(part.name, (UNKNOWN, UNKNOWN))
+        return min(busy / took, 1.0) if took > 0 else 1.0
 
     def keep(self, parts: list[Part]) -> None:
-        self.seconds.update({part.name: round(part.took, 1) for part in parts if part.is_well})
+        self.seconds.update({it.name: (round(it.took, 1), round(it.busy, 1)) for it in parts if it.is_well})
         with contextlib.suppress(OSError):
             os.makedirs(os.path.dirname(self.path), mode=0o700, exist_ok=True)
             with open(self.path, "w", encoding="utf-8") as file:
@@ -70,7 +79,7 @@ class Took:
 
 
 class Run:
-    """Parts that are run, as many side by side as there are processors."""
+    """Parts that are run side by side, as many as keep the processors busy: one that waits leaves room for another."""
 
     def __init__(self, parts: list[Part], took: Took, lanes: int = 0, begun: float | None = None) -> None:
         self.parts, self.took, self.lanes = parts, took, lanes or processors()
@@ -98,8 +107,8 @@ class Run:
         before = sum(map(self.took.of, ended))
         pace = sum(it.took for it in ended) / before if before > 60 else 1.0
         now = time.monotonic()
-        rest = sum(map(self.took.of, self.waiting))
-        rest += sum(max(self.took.of(part) - (now - begun) / pace, 5) for part, begun, _ in self.running.values())
+        rest = sum(self.took.of(it) * self.took.share(it) for it in self.waiting)
+        rest += sum(max(self.took.of(it) - (now - begun) / pace, 5) * self.took.share(it) for it, begun, _ in self.running.values())
         longest = max((self.chain(part) for part in self.waiting), default=0)
         return max(1, round(max(rest / self.lanes, longest) * pace / 60))
 
@@ -133,11 +142,15 @@ class Run:
         """What a part and the longest chain of those that wait for it take."""
         return self.took.of(part) + max((self.behind(it) for it in self.waiting if part.name in it.after), default=0)
 
+    def has_room(self) -> bool:
+        """Whether one more part may begin."""
+        return sum(self.took.share(part) for part, _, _ in self.running.values()) <= self.lanes - IDLE
+
     def lane(self) -> None:
         """Runs one part after another, until none is left."""
         while True:
             with self.lock:
-                while not self.is_over and self.waiting and self.next() is None:
+                while not self.is_over and self.waiting and not (self.next() and self.has_room()):
                     self.lock.wait()
                 if self.is_over or not self.waiting:
                     return
@@ -157,7 +170,9 @@ class Run:
 
     def waited(self, part: Part, process: subprocess.Popen, output) -> str:
         """What a part said, once it ended."""
-        process.wait()
+        _, status, used = os.wait4(process.pid, 0)
+        process.returncode = os.waitstatus_to_exitcode(status)
+        part.busy = used.ru_utime + used.ru_stime
         # (what it left running ends with it)
         with contextlib.suppress(OSError):
             os.killpg(process.pid, signal.SIGKILL)
@@ -199,7 +214,7 @@ class Run:
 
     def run(self) -> bool:
         """Runs all parts, and answers whether all passed. Interrupted it ends what runs, and raises."""
-        threads = [threading.Thread(target=self.lane, daemon=True) for _ in range(self.lanes)]
+        threads = [threading.Thread(target=self.lane, daemon=True) for _ in range(EACH * self.lanes)]
         threading.Thread(target=self.repeat, daemon=True).start()
         for number in (signal.SIGTERM, signal.SIGHUP):
             signal.signal(number, interrupted)

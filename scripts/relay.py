@@ -23,7 +23,7 @@ PROGRAM = "lemonrudder"
 REGISTRY = "/usr/share/cargo/registry"
 PACKAGES = {
     name: f"librust-{name}-dev" for name in (
-        "clap", "futures-util", "openssl", "prometheus", "rusqlite", "serde", "socket2", "tokio", "tokio-openssl",
+        "clap", "futures-util", "openssl", "prometheus", "rusqlite", "rustix", "serde", "socket2", "tokio", "tokio-openssl",
         "tokio-postgres", "toml", "tracing", "tracing-subscriber")
 }
 # the crates of crates.io are those of that folder
@@ -45,9 +45,13 @@ def cargo(lib, *words, then=(), target=TARGET, **options):
                           stdin=subprocess.DEVNULL, check=False, **options)
 
 
+# what cargo is told of the program that is installed or packed, and of the one for tests, which has points at which it ends
+RELEASE, TESTED = ["--release"], ["--features", "points"]
+
+
 def build(lib, target=TARGET, is_release=True, **options):
     """Builds the program over the library in a folder, and answers its path, or None where that failed."""
-    words = ["--release"] if is_release else []
+    words = RELEASE if is_release else TESTED
     if cargo(lib, "build", "--quiet", *words, target=target, **options).returncode != 0:
         return None
     return os.path.join(target, "release" if is_release else "debug", PROGRAM)
