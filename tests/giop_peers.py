@@ -57,8 +57,9 @@ def free_port() -> int:
         return probe.getsockname()[1]
 
 
-def connected(port: int, room: int | None) -> socket.socket:
-    """A connection to a port, which may be listened on soon; its socket has so much room for what comes."""
+def connected(port: int, room: int | None, address: str | None = None) -> socket.socket:
+    """A connection to a port, which may be listened on soon, from an address where one is given; its socket has so much
+    room for what comes."""
     end = time.monotonic() + SECONDS
     while True:
         peer = socket.socket()
@@ -66,6 +67,8 @@ def connected(port: int, room: int | None) -> socket.socket:
         if room is not None:
             peer.setsockopt(socket.SOL_SOCKET, socket.SO_RCVBUF, room)
         try:
+            if address is not None:
+                peer.bind((address, 0))
             peer.connect(("127.0.0.1", port))
             peer.setsockopt(socket.IPPROTO_TCP, socket.TCP_NODELAY, 1)
             return peer
@@ -79,8 +82,8 @@ def connected(port: int, room: int | None) -> socket.socket:
 class Peer:
     """A connection of a client."""
 
-    def __init__(self, port: int, room: int | None = None) -> None:
-        self.socket = connected(port, room)
+    def __init__(self, port: int, room: int | None = None, address: str | None = None) -> None:
+        self.socket = connected(port, room, address)
 
     def __enter__(self) -> Peer:
         return self

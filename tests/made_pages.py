@@ -210,3 +210,7 @@ class Table(unittest.TestCase):
         named = set(re.findall(r"`(tests(?:\.\w+)+)`", table))
         # (wrong_bodies makes its tests of the edits)
         self.assertEqual(named, {*runner.modules_of_tests(), "tests.wrong_bodies"})
+
+    def test_each_is_run(self) -> None:
+        """Each module is among those that `./test` runs."""
+        self.assertEqual({*runner.FIRST, *runner.OF_PROGRAMS, *runner.OF_LIBRARY}, {*runner.modules_of_tests()})

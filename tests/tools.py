@@ -125,7 +125,7 @@ class Lanes(unittest.TestCase):
         """A run of parts, each a name, a line of shell and those that it waits for, and what it said."""
         noted = os.path.join(self.room, "noted")
         with open(noted, "w", encoding="utf-8") as file:
-            file.write("one 5\n")
+            file.write("one 5 2\n")
         made = [lanes.Part(name, ["sh", "-c", line], tuple(after), makes=name.startswith("make")) for name, line, *after in parts]
         run, said = lanes.Run(made, lanes.Took(noted), lanes_at_once), io.StringIO()
         with contextlib.redirect_stdout(said):
@@ -158,7 +158,19 @@ class Lanes(unittest.TestCase):
         run, _ = self.run_of(("one", "echo 1 passed, 0 failed"), ("two", "exit 1"))
         later = lanes.Took(os.path.join(self.room, "noted"))
         self.assertLess(later.of(run.parts[0]), 5)
-        self.assertEqual(later.of(run.parts[1]), lanes.UNKNOWN)
+        self.assertEqual((later.of(run.parts[1]), later.share(run.parts[1])), (lanes.UNKNOWN, 1))
+
+    def test_room(self):
+        """What waits leaves room for others; what does not, none."""
+        noted = os.path.join(self.room, "noted")
+        with open(noted, "w", encoding="utf-8") as file:
+            file.write("waits 10 1\nworks 10 10\n")
+        waits, works = lanes.Part("waits", []), lanes.Part("works", [])
+        for parts, has_room in (([], True), ([works], True), ([works, works], False), ([waits, works], True),
+                                ([waits, works, works], False), ([waits] * 3 + [works], True)):
+            run = lanes.Run([], lanes.Took(noted), 2)
+            run.running = {at: (part, 0, None) for at, part in enumerate(parts)}
+            self.assertEqual(run.has_room(), has_room, [it.name for it in parts])
 
     def test_interrupted(self):
         """Told to end, it ends what it runs, and what that started."""

@@ -7,6 +7,7 @@
   that come again; and each message in lines that are cut anywhere. The lines for a person are those of `giop
   show`, with what the objects say beside them.
 - Octets that are no message stand between messages, and with --resume each message is found.
+- Messages of 1.1 are cut anywhere, and with --cuts anywhere each is found, with a note where its cuts are not aligned.
 
 A session that fails is printed with as few messages as are found with which it still does, as the program takes it.
 """
@@ -495,6 +496,117 @@ def lines_alone(*messages):
     for octets in messages:
         made.text.append(octets.hex() + "\n")
     return traced("".join(made.text))[1].splitlines()
+
+
+# messages of 1.1 that are cut: how many octets each has, those of its frames but the last, headers among them, and whether a
+# note stands at it, since one of these leaves other than 4, divided by 8
+CUTS = [
+    ("whole", 20088, [], False),
+    # as omniORB cuts what is longer than 8 kB: one frame of any length, and a Fragment without octets
+    ("one_frame_of_all", 20088, [20088], True),
+    ("one_frame_of_all_aligned", 20092, [20092], False),
+    ("an_octet_short_of_aligned", 20088, [20083], True),
+    ("an_octet_beyond_aligned", 20088, [20085], True),
+    ("first_frame_ends_amid_a_field", 20088, [22, 20], True),
+    ("frames_of_any_length", 20088, [8208, 8209, 1000], True),
+    ("second_frame_otherwise", 20088, [8212, 8213, 1004], True),
+    ("last_but_one_otherwise", 20088, [8212, 1004, 1003], True),
+    ("fragment_without_octets_amid", 20088, [8212, 12, 1004], False),
+    ("aligned", 20088, [8212, 1004], False),
+]
+CUT_OTHERWISE = "cut otherwise than 1.1 lets align"
+
+
+def frames_of(octets, sizes):
+    """The frames of a message of 1.1: those of so many octets, their headers among them, and the last."""
+    kind, order, rest, frames = octets[7], "<" if octets[6] & 1 else ">", octets[12:], []
+    for size in sizes:
+        frames.append(giop.message(kind, rest[:size - 12], minor=1, order=order, flags=giop.MORE))
+        rest, kind = rest[size - 12:], FRAGMENT
+    return [*frames, giop.message(kind, rest, minor=1, order=order)]
+
+
+class Cuts(unittest.TestCase):
+    """Messages of 1.1 that are cut anywhere, where they are asked for."""
+
+    @classmethod
+    def setUpClass(cls):
+        programs.program("GIOP")
+
+    def text_of(self, frames):
+        """A connection on which the side that opened it sends these."""
+        made = Session(random.Random(SEED))
+        made.open()
+        return "".join([*made.text, *(octets.hex() + "\n" for octets in frames)])
+
+    @base.each(lambda: [(f"{row[0]}_{name}", (order, *row[1:])) for row in CUTS for order, name in ((">", "big"), ("<", "little"))])
+    def test_request(self, part):
+        """A Request of 1.1, and behind it one that is whole, which has no note."""
+        order, size, sizes, is_noted = part
+        # (44 octets stand before the body)
+        body = bytes(n % 251 for n in range(size - 44))
+        octets = giop.request(7, b"k", "put", body, minor=1, order=order)
+        self.assertEqual(len(octets), size)
+        text = self.text_of([*frames_of(octets, sizes), giop.request(8, b"k", "get", minor=1, order=order)])
+        end, name = size + 12 * len(sizes), {">": "big", "<": "little"}[order]
+        note = f", {CUT_OTHERWISE}" if is_noted else ""
+        status, out, err = traced(text, "--cuts", "anywhere")
+        self.assertEqual((status, err), (0, ""))
+        self.assertEqual(message_lines(out), [
+            f"1 > to {end} 1.1 {name} Request id 7 reply full key 6b operation put body {body.hex()}, {size - 44} octets{note}",
+            f"2 > to {end + 44} 1.1 {name} Request id 8 reply full key 6b operation get body -, 0 octets"])
+        self.assertIn("faults 0, 0 octets passed over", out)
+        status, objects, err = traced_objects(text, "--cuts", "anywhere")
+        self.assertEqual((status, err, len(objects)), (0, "", 3))
+        asked = {"line": "message", "connection": 1, "direction": "opener", "version": "1.1", "order": name,
+                 "kind": "Request", "reply": "full", "status": None, "request": None, "later": None, "exception": None,
+                 "target": {"key": "6b", "text": "k", "tag": None, "profile": None, "index": None}, "contexts": [],
+                 "ft": None, "repeats": None}
+        cut = {**({"frames": len(sizes) + 1} if sizes else {}), **({"note": CUT_OTHERWISE} if is_noted else {})}
+        first = {**asked, "number": 1, "to": end, "id": 7, "operation": "put", "octets": size - 44, **cut}
+        second = {**asked, "number": 2, "to": end + 44, "id": 8, "operation": "get", "octets": 0}
+        self.assertIsNone(compared([first, second], objects[:2]))
+        self.assertEqual((objects[2]["messages"], objects[2]["faults"], objects[2]["passed"]), (2, 0, 0))
+
+    @base.each(lambda: [(row[0], row[1:]) for row in CUTS])
+    def test_reply(self, part):
+        """A Reply of 1.1 to a request."""
+        size, sizes, is_noted = part
+        # (24 octets stand before the body)
+        body = bytes(n % 251 for n in range(size - 24))
+        octets = giop.reply(7, body, minor=1)
+        self.assertEqual(len(octets), size)
+        text = self.text_of([giop.request(7, b"k", "get", minor=1)])
+        text += "".join(f"\t{frame.hex()}\n" for frame in frames_of(octets, sizes))
+        note = f", {CUT_OTHERWISE}" if is_noted else ""
+        status, out, err = traced(text, "--cuts", "anywhere")
+        self.assertEqual((status, err), (0, ""))
+        self.assertEqual(message_lines(out)[1:], [
+            f"2 < to {size + 12 * len(sizes)} 1.1 big Reply id 7 to get, 1 after request 1: status NO_EXCEPTION"
+            f" body {body.hex()}, {size - 24} octets{note}"])
+
+    def test_aligned(self):
+        """What is aligned is joined whatever is asked for; else such a message is a fault and is passed over."""
+        octets = giop.request(7, b"k", "put", bytes(20044), minor=1)
+        text = self.text_of(frames_of(octets, [20088]))
+        for words in ((), ("--cuts", "aligned")):
+            status, out, err = traced(text, *words)
+            self.assertEqual((status, err), (1, ""))
+            self.assertEqual(out.splitlines()[1:3],
+                             ["fault > at 0: unaligned fragment", "passed over > from 0: 20100 octets"])
+            self.assertEqual(message_lines(out), [])
+        aligned = self.text_of(frames_of(octets, [8212, 1004]))
+        self.assertEqual(traced(aligned), traced(aligned, "--cuts", "anywhere"))
+
+    def test_version_1_2(self):
+        """A message of 1.2 is cut where its alignment lets it, whatever is asked for of 1.1."""
+        octets = giop.request(7, b"k", "put", bytes(40))
+        aligned, otherwise = self.text_of(giop.cut(octets, [36, 8])), self.text_of(giop.cut(octets, [40]))
+        status, out, _ = traced(aligned, "--cuts", "anywhere")
+        self.assertEqual((status, CUT_OTHERWISE in out), (0, False))
+        self.assertEqual(traced(aligned), (status, out, ""))
+        self.assertEqual(traced(otherwise), traced(otherwise, "--cuts", "anywhere"))
+        self.assertIn("fault > at 0: unaligned fragment", traced(otherwise)[1])
 
 
 class Names(unittest.TestCase):

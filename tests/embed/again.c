@@ -130,7 +130,7 @@ static void transient_leaves_a_call_pending(void) {
 static void settings_are_refused(void) {
   open_client();
   WANT(lr_client_set(&client, 0, 1), LR_E_RANGE);
-  WANT(lr_client_set(&client, LR_CLIENT_PARTIALS + 1, 0), LR_E_RANGE);
+  WANT(lr_client_set(&client, LR_CLIENT_CUTS + 1, 0), LR_E_RANGE);
   WANT(lr_client_set(&client, UINT32_MAX, 1), LR_E_RANGE);
   WANT(lr_client_set(&client, LR_CLIENT_KEEP_TRANSIENT, 2), LR_E_RANGE);
   WANT(lr_client_set(&client, LR_CLIENT_KEEP_FORWARD, UINT64_MAX), LR_E_RANGE);

@@ -262,12 +262,13 @@ static lr_catalogue given;
   CALL(ior_component, IOR, lr_ior_component(slot, 0, 0, &got_id, room, sizeof room))
 
 /* Every function that opens a slot. */
-#define OPENINGS(CALL)                                                      \
-  CALL(catalogue_open, CATALOGUE, lr_catalogue_open(slot))                  \
-  CALL(server_open, SERVER, lr_server_open(slot, &given, 1, 2))             \
-  CALL(client_open, CLIENT, lr_client_open(slot, "A", 1))                   \
-  CALL(assembler_open, ASSEMBLER, lr_assembler_open(slot, LIMIT, PARTIALS)) \
-  CALL(ior_parse, IOR, lr_ior_parse(slot, REFERENCE, SIZE(REFERENCE)))      \
+#define OPENINGS(CALL)                                                                                 \
+  CALL(catalogue_open, CATALOGUE, lr_catalogue_open(slot))                                             \
+  CALL(server_open, SERVER, lr_server_open(slot, &given, 1, 2))                                        \
+  CALL(client_open, CLIENT, lr_client_open(slot, "A", 1))                                              \
+  CALL(assembler_open, ASSEMBLER, lr_assembler_open(slot, LIMIT, PARTIALS))                            \
+  CALL(assembler_open_cuts, ASSEMBLER, lr_assembler_open_cuts(slot, LIMIT, PARTIALS, LR_CUTS_ANYWHERE)) \
+  CALL(ior_parse, IOR, lr_ior_parse(slot, REFERENCE, SIZE(REFERENCE)))                                 \
   CALL(ior_iiop, IOR, lr_ior_iiop(slot, "IDL:C:1.0", 9, 2, "host", 4, 2809, "c", 1))
 
 #define FUNCTION(name, kind, call) \
@@ -383,13 +384,15 @@ static void limits_are_refused(void) {
   for (uint32_t what = LR_SET_DUE; what <= LR_SET_CLIENT_ID; what++) WANT(lr_server_set(&server, what, 1000), LR_OK);
   WANT(lr_server_set(&server, LR_SET_DUE, 0), LR_E_RANGE);
   SETS(lr_server_set, &server, LR_SET_ASK_FIRST, truths);
+  SETS(lr_server_set, &server, LR_SET_CUTS, truths);
   WANT(lr_server_set(&server, 0, 1), LR_E_RANGE);
-  WANT(lr_server_set(&server, LR_SET_ASK_FIRST + 1, 1), LR_E_RANGE);
+  WANT(lr_server_set(&server, LR_SET_CUTS + 1, 1), LR_E_RANGE);
   WANT(lr_server_set(&server, UINT32_MAX, 1), LR_E_RANGE);
   server_works(&server, 1);
   for (uint32_t what = LR_SET_MESSAGE; what <= LR_SET_CLIENT_ID; what++)
     WANT(lr_server_set(&server, what, what == LR_SET_PARTIALS ? 4 : 4096), LR_E_OPEN);
   WANT(lr_server_set(&server, LR_SET_ASK_FIRST, 0), LR_E_OPEN);
+  WANT(lr_server_set(&server, LR_SET_CUTS, LR_CUTS_ALIGNED), LR_E_OPEN);
   WANT(lr_server_lost(&server, 1), LR_OK);
   WANT(lr_server_set(&server, LR_SET_DUE, 1000), LR_E_OPEN);
   server_works(&server, 2);
@@ -401,8 +404,9 @@ static void limits_are_refused(void) {
   SETS(lr_client_set, &client, LR_CLIENT_VERSION, versions);
   SETS(lr_client_set, &client, LR_CLIENT_MESSAGE, messages);
   SETS(lr_client_set, &client, LR_CLIENT_PARTIALS, partials);
+  SETS(lr_client_set, &client, LR_CLIENT_CUTS, truths);
   WANT(lr_client_set(&client, 0, 1), LR_E_RANGE);
-  WANT(lr_client_set(&client, LR_CLIENT_PARTIALS + 1, 1), LR_E_RANGE);
+  WANT(lr_client_set(&client, LR_CLIENT_CUTS + 1, 1), LR_E_RANGE);
   WANT(lr_client_set(&client, UINT32_MAX, 1), LR_E_RANGE);
   WANT(lr_client_set(&client, LR_CLIENT_KEEP_TRANSIENT, 0), LR_OK);
   WANT(lr_client_set(&client, LR_CLIENT_KEEP_FORWARD, 0), LR_OK);
@@ -410,6 +414,7 @@ static void limits_are_refused(void) {
   WANT(lr_client_set(&client, LR_CLIENT_VERSION, 2), LR_E_OPEN);
   WANT(lr_client_set(&client, LR_CLIENT_MESSAGE, 4096), LR_E_OPEN);
   WANT(lr_client_set(&client, LR_CLIENT_PARTIALS, 4), LR_E_OPEN);
+  WANT(lr_client_set(&client, LR_CLIENT_CUTS, LR_CUTS_ALIGNED), LR_E_OPEN);
   WANT(lr_client_set(&client, LR_CLIENT_KEEP_FORWARD, 1), LR_OK);
   client_works(&client, 1);
   lr_close(&client);
@@ -422,6 +427,13 @@ static void limits_are_refused(void) {
       WANT(lr_assembler_open(&assembler, (uint32_t)messages[one].number, (uint32_t)partials[other].number),
            is_right ? LR_OK : LR_E_RANGE);
       lr_close(&assembler);
+      WANT(lr_assembler_open_cuts(&assembler, (uint32_t)messages[one].number, (uint32_t)partials[other].number,
+                                  LR_CUTS_ANYWHERE),
+           is_right ? LR_OK : LR_E_RANGE);
+      lr_close(&assembler);
+      WANT(lr_assembler_open_cuts(&assembler, (uint32_t)messages[one].number, (uint32_t)partials[other].number,
+                                  LR_CUTS_ANYWHERE + 1),
+           LR_E_RANGE);
     }
   }
 }
@@ -1050,6 +1062,25 @@ static void faults_are_named(void) {
   }
 }
 
+/* A Reply of 1.1 of 24 octets, and an empty last Fragment: its octets leave 0 modulo 8, so where cuts are to be aligned
+ * it is refused. */
+static void cuts_of_1_1_are_refused(void) {
+  static const char cut[] =
+      "GIOP\1\1\2\1\0\0\0\14\0\0\0\0\0\0\0\7\0\0\0\0"
+      "GIOP\1\1\0\7\0\0\0\0";
+  lr_assembler assembler = LR_INIT;
+  lr_message said;
+  WANT(lr_assembler_open(&assembler, 4096, 1), LR_OK);
+  WANT(lr_assembler_feed(&assembler, cut, SIZE(cut)), LR_E_STREAM);
+  WANT(lr_assembler_fault(&assembler), LR_FAULT_UNALIGNED_FRAGMENT);
+  lr_close(&assembler);
+  WANT(lr_assembler_open_cuts(&assembler, 4096, 1, LR_CUTS_ANYWHERE), LR_OK);
+  WANT(lr_assembler_feed(&assembler, cut, SIZE(cut)), SIZE(cut));
+  WANT(lr_assembler_message(&assembler, &said, sizeof said), 1);
+  CHECK(said.type == LR_MSG_REPLY && said.version == 1 && said.request_id == 7 && said.body_size == 0);
+  lr_close(&assembler);
+}
+
 static int64_t write_request_of(uint32_t version, uint32_t order, uint32_t wish, const char *operation,
                                 size_t operation_size, size_t size) {
   return lr_write_request(room, size, version, order, 7, wish, "c", 1, operation, operation_size, 0, NULL, 0,
@@ -1133,9 +1164,29 @@ static void places_are_refused(void) {
 
 /* ---- references ---- */
 
+/* A URL: an address of IIOP for each that it names, with its key. */
+static void urls_are_read(void) {
+  lr_ior ior = LR_INIT;
+  lr_profile profile;
+  WANT(lr_ior_parse(&ior, LR_TEXT("corbaloc:iiop:1.2@host:2810,:[::1]/c%20d")), LR_OK);
+  WANT(lr_ior_parse(&ior, LR_TEXT("corbaloc::host/c")), LR_E_OPEN);
+  WANT(lr_ior_type_id(&ior, NULL, 0), 0);
+  WANT(lr_ior_profiles(&ior), 2);
+  WANT(lr_ior_profile(&ior, 0, &profile, sizeof profile), LR_OK);
+  CHECK(profile.is_iiop == 1 && profile.minor == 2 && profile.port == 2810 && profile.components == 0);
+  WANT(lr_ior_part(&ior, 0, LR_IOR_KEY, room, sizeof room), 3);
+  CHECK(memcmp(room, "c d", 3) == 0);
+  WANT(lr_ior_profile(&ior, 1, &profile, sizeof profile), LR_OK);
+  CHECK(profile.is_iiop == 1 && profile.minor == 0 && profile.port == 2809);
+  WANT(lr_ior_part(&ior, 1, LR_IOR_HOST, room, sizeof room), 3);
+  CHECK(memcmp(room, "::1", 3) == 0);
+  lr_close(&ior);
+}
+
 static void references_are_refused(void) {
   static const char *const texts[] = {
-      "", "I", "IOR", "IOR:", "IOR:0", "IOR:zz", "IOR:00", "JOR:00", "corbaloc::host:2809/c", "IOR:0000000000000000 "};
+      "", "I", "IOR", "IOR:", "IOR:0", "IOR:zz", "IOR:00", "JOR:00", "IOR:0000000000000000 ",
+      "corbaloc", "corbaloc:", "corbaloc:/c", "corbaloc:rir:/c", "corbaloc::host:x/c", "corbaloc::host/%0g"};
   lr_ior ior = LR_INIT, other = LR_INIT;
   lr_profile profile;
   memset(&profile, 0xee, sizeof profile);
@@ -1310,8 +1361,10 @@ int main(void) {
   calls_have_a_size();
   assemblers_refuse();
   faults_are_named();
+  cuts_of_1_1_are_refused();
   messages_are_refused();
   places_are_refused();
+  urls_are_read();
   references_are_refused();
   moments_are_counted();
   errors_have_texts();

@@ -18,8 +18,8 @@ BENCH = os.path.join(ROOT, "bench")
 # how long a script may take on a busy machine, in seconds
 SECONDS = 1800
 # the rows of each script: how their lines begin, and how many there are
-RUN = {r"an? (Request|Reply|LocateRequest|message|reference's text) .* \(\d": 6, r"(it|in pieces) .* \(\d": 4,
-       r"eight cut messages .* \(\d": 1, r"`(check|show)`, a digit .* \(\d": 2,
+RUN = {r"an? (Request|Reply|LocateRequest|message|reference's text) .* \(-?\d": 6, r"(it|in pieces) .* \(-?\d": 4,
+       r"eight cut messages .* \(-?\d": 1, r"`(check|show)`, a digit .* \(-?\d": 2,
        r"(read |write) (structs|ulongs|longlongs|shorts|booleans|octets) +-?\d": 12}
 SERVER = {r"\d+ streams from seed ": 1, r"(ours|plain), 1,024 kept, .* octets in use beyond 5,000": 4,
           r" *(add|repeat|locate) +\d+   +\d\.\d+ ": 12, r" *(rising|scattered|clients) +\d+ +\d+   +\d\.\d+ ": 9,

@@ -122,7 +122,7 @@ lr::Result<lr::Server> open_server() {
   settings.parked_of_one = 2;
   auto server = lr::Server::open(*catalogue, {1, 2}, settings);
   CHECK(server && !catalogue->is_open());
-  CHECK(server && server->set(LR_SET_DUE, 1 << 16) && server->set(LR_SET_DUE + 3, 1).error() == LR_E_RANGE);
+  CHECK(server && server->set(LR_SET_DUE, 1 << 16) && server->set(LR_SET_CUTS + 1, 1).error() == LR_E_RANGE);
   return server;
 }
 
@@ -152,6 +152,23 @@ void objects_move() {
   one.close();
   one.close();
   CHECK(!one.is_open() && one.fault().error() == LR_E_EMPTY);
+}
+
+/* A Reply of 1.1 of 24 octets and an empty Fragment: where cuts are to be aligned it is refused. */
+void messages_are_cut_anywhere() {
+  const lr::Octets cut(
+      "GIOP\1\1\2\1\0\0\0\14\0\0\0\0\0\0\0\7\0\0\0\0"
+      "GIOP\1\1\0\7\0\0\0\0",
+      36);
+  auto refused = lr::Assembler::open(limits);
+  CHECK(refused && refused->feed(cut).error() == LR_E_STREAM);
+  auto taken = lr::Assembler::open({4096, 1, lr::Cuts::anywhere});
+  CHECK(taken && taken->feed(cut).value_or(0) == cut.size());
+  auto message = taken->message();
+  CHECK(message && *message && (*message)->request_id == 7);
+  lr::ClientSettings settings;
+  settings.cuts = lr::Cuts::anywhere;
+  CHECK(lr::Client::open("A", settings));
 }
 
 /* A client calls, its connection is lost, and it is answered on the next. */
@@ -816,6 +833,7 @@ void refused_ones_are_asked_first() {
 int main() {
   CHECK(lr_set_heap(allocate, reallocate, std::free) == LR_OK);
   objects_move();
+  messages_are_cut_anywhere();
   a_call_acts_once();
   a_call_goes_on();
   a_raw_call_goes_on();

@@ -601,8 +601,8 @@ static void calls_raw(void) {
   client = (lr_client)LR_INIT;
   memset(completed, 0, sizeof completed);
   AGAIN(lr_client_open(&client, "A", 1), LR_OK);
-  for (uint32_t what = LR_CLIENT_VERSION; what <= LR_CLIENT_PARTIALS; what++)
-    AGAIN(lr_client_set(&client, what, what == LR_CLIENT_MESSAGE ? 4096 : 2), LR_OK);
+  for (uint32_t what = LR_CLIENT_VERSION; what <= LR_CLIENT_CUTS; what++)
+    AGAIN(lr_client_set(&client, what, what == LR_CLIENT_MESSAGE ? 4096 : what == LR_CLIENT_CUTS ? 1 : 2), LR_OK);
   AGAIN(lr_client_call_raw(&client, NOW, LATER, LR_WISH_FULL, "c", 1, "add", 3, LR_ORDER_BIG, one_context,
                            sizeof one_context, "\0\0\0\5", 4),
         1);

@@ -577,6 +577,7 @@ class Messages(Case):
     def test_limits(self):
         for limit, partials in ((4095, 8), (16777217, 8), (4096, 0), (4096, 17)):
             self.fails(Error.RANGE, lr.Assembler, limit, partials)
+        self.fails(Error.RANGE, lr.Assembler, 4096, 1, 2)
         with self.assertRaises(ValueError):
             lr.Assembler((1 << 32) + 4096)
         octets = lr.write_request(1, bytes(4096 - 64), "o")
@@ -654,6 +655,16 @@ class Fragments(Case):
         first, last = giop.cut(octets, [8 * 5])
         self.assertEqual(len(first) % 8, 4)
         self.assertEqual(list(lr.messages(first + last)), list(lr.messages(octets)))
+        for at in range(len(octets) - 12):
+            first, last = giop.cut(octets, [at])
+            with self.subTest(at):
+                found = list(lr.messages(first + last, cuts=lr.Cuts.ANYWHERE))
+                self.assertEqual(found, list(lr.messages(octets)))
+                if at % 8 != 0:
+                    with self.assertRaises(lr.StreamError):
+                        list(lr.messages(first + last))
+        with self.assertRaises(lr.StreamError):
+            list(lr.messages(giop.cut(lr.write_request(3, b"key", "o", bytes(64)), [13])[0], cuts=lr.Cuts.ANYWHERE))
 
     def test_faults_by_name(self):
         close, request = lr.write_close(), self.request(1, 256)
@@ -755,7 +766,7 @@ class References(Case):
         self.assertEqual((nil.type_id, nil.profiles), ("", ()))
 
     def test_what_is_none(self):
-        for bad in ("", "IOR", "IOR:", "IOR:0", "IOR:0g", "corbaloc:h/k", COUNTER[:-20], "IOR:\u20ac", COUNTER[4:]):
+        for bad in ("", "IOR", "IOR:", "IOR:0", "IOR:0g", "corbaloc:rir:/k", COUNTER[:-20], "IOR:\u20ac", COUNTER[4:]):
             with self.subTest(bad):
                 self.fails(Error.REFERENCE, lr.Ior.parse, bad)
         self.fails(Error.RANGE, lr.Ior.iiop, "IDL:X:1.0", "h", 1, b"k", 3)

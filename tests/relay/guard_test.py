@@ -23,6 +23,14 @@ from tests.relay.relays import Relay
 DECLINED = 0xfffff001
 # two code sets as a service context has them
 SETS = [(CODE_SETS, b"\0\0\0\0\x05\x01\0\x01\0\1\1\x09"), (CODE_SETS, b"\0\0\0\0\0\x01\0\x01\0\1\1\x09")]
+# the status of a forward that is meant for good
+FOR_GOOD = 4
+
+def code_sets(number: int) -> giop.Context:
+    """The code set UTF-8 for char, and one of a number for wchar."""
+    return CODE_SETS, b"\0\0\0\0\x05\x01\0\x01" + number.to_bytes(4, "big")
+
+
 # a service context of another kind
 OTHER = (0x41424300, b"some data")
 # the id of the service context that moves a body
@@ -179,11 +187,11 @@ class Forwarding(unittest.TestCase):
         with guarded() as (server, guard), Peer(guard.port) as busy:
             may_go_on = threading.Event()
             server.answer = lambda came: came.operation == b"slow" and may_go_on.wait(relays.SECONDS) and None or None
-            busy.tell(giop.request(1, KEY, "slow", contexts=[(CODE_SETS, b"\0\0\0\0")]))
+            busy.tell(giop.request(1, KEY, "slow", contexts=[code_sets(1000)]))
             until(lambda: server.performed, "it comes")
             for number in range(70):
                 with Peer(guard.port) as peer:
-                    peer.tell(giop.request(1, KEY, "any", contexts=[(CODE_SETS, number.to_bytes(8, "big"))]))
+                    peer.tell(giop.request(1, KEY, "any", contexts=[code_sets(number)]))
                     want(peer.message().status, giop.NO_EXCEPTION)
             may_go_on.set()
             want(busy.message().status, giop.NO_EXCEPTION)
@@ -446,16 +454,20 @@ class Once(unittest.TestCase):
     def test_what_takes_too_long(self):
         """It is TIMEOUT, COMPLETED_MAYBE, which is kept; the reply that comes later is dropped, and others are
         answered."""
-        with guarded("--timeout", "2") as (server, guard), Peer(guard.port) as peer:
-            server.once(QUIET, QUIET)
+        with guarded("--timeout", "2", "--connections", "1") as (server, guard), Peer(guard.port) as peer:
             late = system(1, "TIMEOUT", MAYBE)
             for number in (1, None):
+                server.once(QUIET)
+                before = len(server.performed)
                 peer.tell(request(1, KEY, "add", number=number))
+                until(lambda before=before: len(server.performed) > before, "it comes")
+                # (what is answered meanwhile says that the connection is alive)
+                ask(guard.port, request(3, KEY, "add"), giop.reply(3, number_body(before + 2)))
                 peer.wants(late)
             server.answer = lambda came: giop.reply(server.performed[0].request_id) + giop.reply(came.request_id)
             peer.tell(request(2, KEY, "add", number=2) + request(1, KEY, "add", number=1))
             want(sorted([peer.message().request_id, peer.message().request_id]), [1, 2])
-            want(len(server.performed), 3)
+            want((len(server.performed), server.connections), (5, 1))
 
     def test_it_outlives_its_process(self):
         """Outcomes in a file are those of the next life."""
@@ -484,12 +496,13 @@ class Once(unittest.TestCase):
                 want(len(server.performed), 0 if point == "begun" else 1)
 
     def test_what_is_not_begun(self):
-        """What has expired, whose FT_REQUEST is not valid or whose client's id is too long is BAD_CONTEXT; what is more
-        than a client's share is NO_RESOURCES; nothing is sent, and nothing kept."""
+        """What has expired, or whose client's id is too long, is BAD_CONTEXT, and whose FT_REQUEST is not valid MARSHAL;
+        what is more than a client's share is NO_RESOURCES; nothing is sent, and nothing kept."""
         with guarded("--share", "1") as (server, guard), Peer(guard.port) as peer:
-            for context in (giop.ft_request(b"A", 1, 1), (giop.FT_REQUEST, b"\0"), giop.ft_request(b"A" * 257, 1)):
+            for context, name in ((giop.ft_request(b"A", 1, 1), "BAD_CONTEXT"), ((giop.FT_REQUEST, b"\0"), "MARSHAL"),
+                                  (giop.ft_request(b"A" * 257, 1), "BAD_CONTEXT")):
                 peer.tell(giop.request(1, KEY, "add", contexts=[context]))
-                peer.wants(system(1, "BAD_CONTEXT", NO))
+                peer.wants(system(1, name, NO))
             peer.tell(giop.request(1, KEY, "add", contexts=[OTHER] * 33))
             peer.wants(system(1, "IMP_LIMIT", NO))
             want(server.performed, [])
@@ -501,6 +514,100 @@ class Once(unittest.TestCase):
             peer.wants(system(2, "NO_RESOURCES", NO, DECLINED))
             may_go_on.set()
             want(sorted([peer.message().request_id, peer.message().request_id]), [1, 3])
+
+
+def forward(port: int, status: int = giop.LOCATION_FORWARD, key: bytes = b"there") -> Callable[[Message], bytes]:
+    """What answers a request by a forward to a key at a port."""
+    return lambda came: giop.reply(
+        came.request_id, lambda out: put_reference(out, Reference(b"IDL:A:1.0", 2, b"127.0.0.1", port, key)),
+        status=status, order=came.order, minor=came.minor)
+
+
+class Led(unittest.TestCase):
+    """What a server forwards is performed by nobody, and nothing of it is kept."""
+
+    @classmethod
+    def setUpClass(cls):
+        relays.program()
+
+    @base.each(lambda: [("once", giop.LOCATION_FORWARD), ("for good", FOR_GOOD)])
+    def test_the_key_acts_where_it_leads(self, status: int) -> None:
+        """A client follows with the same key, which acts there once; a repeat, also of what was forwarded, is answered by
+        that, and so is one that waited."""
+        with guarded() as (server, guard), Peer(guard.port) as peer:
+            asked = request(1, KEY, "add", number=1)
+            follows = request(2, b"there", "add", number=1)
+            server.answer = lambda came: forward(server.port, status)(came) if came.key == KEY else None
+            for _ in range(2):
+                peer.tell(asked)
+                want(peer.message(), giop.read(forward(guard.port, status)(giop.read(asked))))
+            for _ in range(2):
+                peer.tell(follows + asked)
+                peer.wants(giop.reply(2, number_body(3)))
+                peer.wants(giop.reply(1, number_body(3)))
+            want([came.key for came in server.performed], [KEY, KEY, b"there"])
+
+    def test_who_waited_for_it_is_sent(self):
+        """A repeat that came while the first was under way is sent once that was forwarded."""
+        with guarded() as (server, guard), Peer(guard.port) as first, Peer(guard.port) as second:
+            may_go_on = threading.Event()
+
+            def answer(came: Message) -> object:
+                if len(server.performed) == 1:
+                    may_go_on.wait(relays.SECONDS)
+                    return forward(server.port)(came)
+                return None
+
+            server.answer = answer
+            asked = request(1, KEY, "add", number=1)
+            first.tell(asked)
+            until(lambda: server.performed, "it comes")
+            second.tell(asked)
+            may_go_on.set()
+            want(first.message().status, giop.LOCATION_FORWARD)
+            second.wants(giop.reply(1, number_body(2)))
+
+    @base.each(lambda: [("led", ("led", MAYBE)), ("undone", ("undone", None)), ("answered", ("answered", None))])
+    def test_the_guard_dies_there(self, given: tuple) -> None:
+        """Between the forward and its key's end nobody knows: MAYBE is kept, and the key never acts. Behind that it acts
+        where the client is led."""
+        point, completed = given
+        with tempfile.TemporaryDirectory() as folder, \
+                guarded(store=os.path.join(folder, "kept"), dies_at=point) as (server, guard):
+            server.answer = lambda came: forward(server.port)(came) if came.key == KEY else None
+            with Peer(guard.port) as peer:
+                peer.tell(request(1, KEY, "add", number=1))
+                until(guard.died, "it dies")
+            guard.end()
+            guard.begin()
+            for _ in range(2):
+                ask(guard.port, request(1, b"there", "add", number=1),
+                    system(1, "COMM_FAILURE", MAYBE) if completed == MAYBE else giop.reply(1, number_body(2)))
+            want([came.key for came in server.performed], [KEY] if completed == MAYBE else [KEY, b"there"])
+
+    def test_what_leads_elsewhere_passes_to_retry(self):
+        """As it is, and nothing is kept: `retry` follows to guards of its list, and refuses what leads to none."""
+        with guarded() as (server, guard), Server() as other, \
+                Relay("guard", "--server", f"127.0.0.1:{other.port}", "--store", "memory") as there, \
+                Relay("retry", "--guard", f"127.0.0.1:{guard.port}", "--guard", f"127.0.0.1:{there.port}") as retry:
+            there.begin()
+            retry.begin()
+            for port, answer in ((there.port, giop.reply(1, number_body(1))), (1, system(1, "IMP_LIMIT", NO))):
+                server.answer = forward(port)
+                ask(retry.port, request(1, KEY, "add"), answer)
+            want([came.key for came in other.performed], [b"there"])
+            self.assertIn('where no guard of the list is places=["127.0.0.1:1"]', retry.said())
+
+    def test_what_leads_nowhere_is_kept(self):
+        """A forward that can't be passed on, and a server that wants another addressing, have performed nothing; what is
+        told of that, COMPLETED_NO, is kept, so that it stays true of what is sent later."""
+        with guarded() as (server, guard):
+            for number, said in enumerate((forward(1), lambda came: giop.reply(came.request_id, b"\0\0", status=5))):
+                server.answer = said
+                ask(guard.port, request(1, KEY, "any", number=number), system(1, "IMP_LIMIT", NO))
+                server.answer = None
+                ask(guard.port, request(1, KEY, "any", number=number), system(1, "IMP_LIMIT", NO))
+            want(len(server.performed), 2)
 
 
 class Ends(unittest.TestCase):

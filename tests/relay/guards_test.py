@@ -1,10 +1,13 @@
-"""Several guards over one PostgreSQL, seen by their clients: whatever becomes of one, nothing acts twice."""
+"""Several guards over one PostgreSQL, seen by their clients: whatever becomes of one, nothing acts twice. And guards whose
+stores differ, or are other ones than they were: what was sent to one is sent to no other."""
 from __future__ import annotations
 
 import collections
 import contextlib
 import os
 import random
+import re
+import shutil
 import signal
 import tempfile
 import threading
@@ -17,9 +20,9 @@ from tests.embed.durable import Postgres
 from tests.giop import MAYBE, NO
 from tests.giop_peers import Peer, ask, number_body, request, until, want
 from tests.relay import relays
-from tests.relay.guard_test import DECLINED, KEY, Server, system
+from tests.relay.guard_test import DECLINED, KEY, PADDING, QUIET, Server, guarded, system
 from tests.relay.operation_test import Counters
-from tests.relay.relays import Calling, Relay, judge, results_differ
+from tests.relay.relays import Relay
 
 # how many calls are made while all is disturbed
 CALLS = int(os.environ.get("RELAY_CALLS", "300"))
@@ -151,43 +154,62 @@ class Guards(unittest.TestCase):
                 ask(guard.port, later, giop.reply(1, number_body(2)))
             want(len(server.performed), 2)
 
+    def test_a_store_that_was_put_back(self):
+        """As from a dump: its tables have what they had then, and what was begun since is not among that."""
+        with Server() as server, self.guard(server, 60) as guard, \
+                Relay("retry", "--guard", f"127.0.0.1:{guard.port}") as retry, contextlib.ExitStack() as stack:
+            guard.begin("finished:2")
+            retry.begin()
+            peer = stack.enter_context(Peer(retry.port))
+            peer.tell(request(1, KEY, "add"))
+            peer.wants(giop.reply(1, number_body(1)))
+            peer.tell(request(2, KEY, "add"))
+            until(guard.died, "it dies")
+            guard.end()
+            self.postgres.asked("""BEGIN; DELETE FROM lemonrudder.outcome;
+                CREATE TABLE lemonrudder.copy AS TABLE lemonrudder.identity; DROP TABLE lemonrudder.identity;
+                ALTER TABLE lemonrudder.copy RENAME TO identity; COMMIT""")
+            guard.begin()
+            peer.wants(system(2, "COMM_FAILURE", MAYBE))
+            want(len(server.performed), 2)
+
     @base.each_seed(71, 1)
     def test_all_at_once(self, seed: int) -> None:
-        """Two guards and their database are killed and stopped by chance amid the calls of omniORB through `retry`."""
+        """Two guards, their server and their database are killed and stopped by chance amid the calls of omniORB through
+        `retry`, of each version, short and long, and of objects that forward."""
         relays.orbs()
-        dice = random.Random(seed)
+        dice, begun = random.Random(seed), time.monotonic()
         with tempfile.TemporaryDirectory() as folder, contextlib.ExitStack() as stack:
             port = relays.free_port()
-            server = stack.enter_context(relays.Server(folder, port))
+            server = stack.enter_context(relays.Server(folder, port, relays.HOPS))
             server.begin()
-            guards = [stack.enter_context(self.guard(server, 1, "--timeout", "60")) for _ in range(2)]
+            known = ("--published", f"127.0.0.1:{port}")
+            guards = [stack.enter_context(self.guard(server, 1, "--timeout", "60", *words)) for words in (known, ())]
             for guard in guards:
                 guard.begin()
             words = [word for guard in guards for word in ("--guard", f"127.0.0.1:{guard.port}")]
             retry = stack.enter_context(Relay("retry", *words, "--timeout", "60", port=port))
             retry.begin()
-            calling = Calling(server.reference, "call", CALLS, THREADS, "5")
-            kills = self.disturb(dice, guards, calling)
-            answers = calling.answers()
+            clients = relays.Clients(server, CALLS, THREADS, "5")
+            kills = self.disturb(dice, guards, server, clients)
             for life in (retry, *guards):
                 life.end(signal.SIGTERM)
-            told = judge(answers, server.performed(), (kills["kill"] + kills["stop"]) * THREADS)
-            results_differ(answers)
-            self.assertEqual(len(answers), CALLS)
-            self.assertGreater(told["returned"], CALLS // 4, told)
-            self.assertGreater(min(kills.values()), 0, kills)
-            print(f"seed {seed}: {dict(kills)}: {dict(told)}")
+            told = clients.judged(server.performed(), kills["kill"] + kills["stop"] + kills["server"])
+            self.assertEqual(len(kills), 4, kills)
+            print(f"seed {seed}: {dict(kills)}: {told}; {time.monotonic() - begun:.0f} s")
 
-    def disturb(self, dice: random.Random, guards: list[Relay], calling: Calling) -> collections.Counter:
+    def disturb(self, dice: random.Random, guards: list[Relay], server: relays.Server,
+                clients: relays.Clients) -> collections.Counter:
         """Does one thing after another, in turn and by chance, until all calls are made."""
-        done, deeds = collections.Counter(), ["kill", "stop", "database"]
-        while not calling.is_over():
+        done, deeds = collections.Counter(), ["kill", "stop", "database", "server"]
+        while not clients.are_over():
             time.sleep(dice.uniform(0.1, 0.4))
-            deed = deeds[sum(done.values()) % 3] if sum(done.values()) < 3 else dice.choice(deeds)
+            deed = deeds[done.total() % 4] if done.total() < 4 else dice.choice(deeds)
             guard = dice.choice(guards)
-            if deed == "kill":
-                guard.end()
-                guard.begin()
+            if deed in ("kill", "server"):
+                life = guard if deed == "kill" else server
+                life.end()
+                life.begin()
             elif deed == "stop":
                 guard.tell(signal.SIGSTOP)
                 time.sleep(dice.uniform(0.5, 2.5))
@@ -197,6 +219,139 @@ class Guards(unittest.TestCase):
                 self.postgres.start()
             done[deed] += 1
         return done
+
+
+
+# what becomes of the file of a guard that died at a point, and what is told of the request that was there: of the outcome
+# that it may know, where it is the same file
+FILES = {
+    "the same": ("finished", "keep", giop.reply(2, number_body(2))),
+    "the same, and nobody knows": ("received", "keep", system(2, "COMM_FAILURE", MAYBE)),
+    "the same, and it is not begun": ("before-begin", "keep", giop.reply(2, number_body(2))),
+    "an empty one": ("finished", "empty", system(2, "COMM_FAILURE", MAYBE)),
+    "a copy": ("finished", "put back", system(2, "COMM_FAILURE", MAYBE)),
+    "a copy of a life before": ("finished", "put back all", system(2, "COMM_FAILURE", MAYBE)),
+    "without what is not in the file yet": ("finished", "lose the log", system(2, "COMM_FAILURE", MAYBE)),
+}
+
+
+def names(retry: Relay, guard: Relay) -> bool:
+    """Whether a line of the log has a guard as one to which something may not be sent."""
+    return re.search(rf'have another store than .* guards=\["127.0.0.1:{guard.port}"\]', retry.said()) is not None
+
+
+class Files(unittest.TestCase):
+    """What `retry` sends again is sent to the store to which it went."""
+
+    @classmethod
+    def setUpClass(cls):
+        relays.program()
+
+    @staticmethod
+    def copy(there: str, to: str, *ends: str) -> None:
+        """Puts the files of a store in place of another's: what it has not goes."""
+        for end in ends:
+            if os.path.exists(there + end):
+                shutil.copyfile(there + end, to + end)
+            else:
+                with contextlib.suppress(FileNotFoundError):
+                    os.remove(to + end)
+
+    @base.each(lambda: list(FILES.items()))
+    def test_what_became_of_its_file(self, given: tuple) -> None:
+        """A guard dies amid a request, and is begun again over the same file, or another: nothing acts twice."""
+        point, deed, told = given
+        with tempfile.TemporaryDirectory() as folder, Server() as server, contextlib.ExitStack() as stack:
+            store, kept = os.path.join(folder, "outcomes"), os.path.join(folder, "copy")
+            with Relay("guard", "--server", f"127.0.0.1:{server.port}", "--store", store) as guard, \
+                    Relay("retry", "--guard", f"127.0.0.1:{guard.port}") as retry:
+                guard.begin()
+                guard.end(signal.SIGTERM)
+                if deed == "put back all":
+                    self.copy(store, kept, "", "-begun", "-wal")
+                guard.begin(f"{point}:2")
+                if deed == "put back":
+                    self.copy(store, kept, "", "-wal")
+                retry.begin()
+                peer = stack.enter_context(Peer(retry.port))
+                peer.tell(request(1, KEY, "add"))
+                peer.wants(giop.reply(1, number_body(1)))
+                peer.tell(request(2, KEY, "add"))
+                until(guard.died, "it dies")
+                guard.end()
+                if deed == "empty":
+                    for end in ("", "-wal"):
+                        os.remove(store + end)
+                elif deed == "lose the log":
+                    os.remove(store + "-wal")
+                elif deed.startswith("put back"):
+                    self.copy(kept, store, "", "-wal", "-begun")
+                guard.begin()
+                peer.wants(told)
+                want(len(server.performed), 2)
+                peer.tell(request(3, KEY, "add"))
+                peer.wants(giop.reply(3, number_body(3)))
+                want(names(retry, guard), deed != "keep")
+                want(sum(PADDING < id < PADDING + 9 for came in server.performed for id, _ in came.contexts), 0)
+
+    def test_two_guards_with_a_file_each(self):
+        """The first dies amid a request, which the second must not perform: it is MAYBE once its time is over. What is new
+        is performed."""
+        with tempfile.TemporaryDirectory() as folder, Server() as server, contextlib.ExitStack() as stack:
+            one, other = (stack.enter_context(Relay("guard", "--server", f"127.0.0.1:{server.port}", "--store",
+                                                    os.path.join(folder, name))) for name in ("one", "other"))
+            retry = stack.enter_context(Relay("retry", "--guard", f"127.0.0.1:{one.port}", "--guard",
+                                              f"127.0.0.1:{other.port}", "--timeout", "2"))
+            for life in (one, other, retry):
+                life.begin()
+            server.once(QUIET)
+            with Peer(retry.port) as peer, Peer(retry.port) as later:
+                peer.tell(request(1, KEY, "add"))
+                until(lambda: server.performed, "it comes")
+                one.end()
+                later.tell(request(2, KEY, "add"))
+                later.wants(giop.reply(2, number_body(2)))
+                peer.wants(system(1, "TIMEOUT", MAYBE))
+            want(len(server.performed), 2)
+            want(names(retry, other), True)
+
+    def test_what_was_declined_goes_anywhere(self):
+        """A guard that could not send it ends: the other, of another store, performs it."""
+        with tempfile.TemporaryDirectory() as folder, Server() as server, contextlib.ExitStack() as stack:
+            port = relays.free_port()
+            one, other = (stack.enter_context(Relay("guard", "--server", f"127.0.0.1:{at}", "--store",
+                                                    os.path.join(folder, name)))
+                          for name, at in (("one", port), ("other", server.port)))
+            retry = stack.enter_context(Relay("retry", "--guard", f"127.0.0.1:{one.port}", "--guard",
+                                              f"127.0.0.1:{other.port}"))
+            for life in (one, other, retry):
+                life.begin()
+            with Peer(retry.port) as peer:
+                peer.tell(request(1, KEY, "add"))
+                until(lambda: "not connected" in one.said(), "it can't be sent")
+                one.end(signal.SIGTERM)
+                peer.wants(giop.reply(1, number_body(1)))
+
+    def test_a_client_is_told_nothing_of_it(self):
+        """A guard tells which store it has to who asks for that alone, as `retry` does, whose client does not hear it; and
+        begins nothing of who asks, or names another."""
+        with guarded() as (server, guard), Peer(guard.port) as peer:
+
+            def asks(number: int, meant: bytes) -> tuple[int, bytes]:
+                contexts = [giop.ft_request(b"A", number), (PADDING + 1, b"\0" + meant)]
+                peer.tell(giop.request(number, KEY, "add", contexts=contexts))
+                came = peer.message()
+                ((name, told),) = came.contexts
+                want((name, told[0], len(told)), (PADDING + 1, 0, 30))
+                if came.status != giop.NO_EXCEPTION:
+                    want(came.body, giop.read(system(number, "TRANSIENT", NO, DECLINED)).body)
+                return told[1], told[2:]
+
+            _, mark = asks(1, b"")
+            want([asks(1, other) for other in (b"", b"x", bytes(28))], [(1, mark)] * 3)
+            want(server.performed, [])
+            want([asks(1, mark), asks(2, mark)], [(0, mark)] * 2)
+            ask(guard.port, request(9, KEY, "add", number=1), giop.reply(9, number_body(1)))
 
 
 if __name__ == "__main__":

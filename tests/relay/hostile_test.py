@@ -1,14 +1,16 @@
 """Peers of a relay that mean no good: what they send is counted and said with its reason, and nobody else notices."""
 from __future__ import annotations
 
+import asyncio
 import contextlib
 import random
 import signal
 import socket
 import struct
+import threading
 import time
 import unittest
-from collections.abc import Iterator
+from collections.abc import Callable, Iterator
 
 from tests import base, giop
 from tests.giop import BIG, LITTLE, MAYBE, MORE
@@ -62,11 +64,8 @@ ENDS = {
     "a version of GIOP that is not known": b"GIOP\1\3\0\0" + bytes(4),
     "flags or a type that the version of GIOP lacks": b"GIOP\1\2\0\x09" + bytes(4),
     "a fragment of no message": rest(9),
-    "too many messages are partial": b"".join(begun(index) for index in range(17)),
-    "a message amid the fragments of another": begun(1, minor=1) + giop.request(2, b"k", "add", minor=1),
-    "fragments of different orders": begun(1) + rest(1, order=LITTLE),
     "a message is too long": giop.MAGIC + bytes([1, 2, 0, giop.LOCATE]) + b"\x7f\xff\xff\xff",
-    "a message that does not read": giop.message(giop.REQUEST, b"\0\0\0\1\3\0\0\0\0\0\0\0\xff\xff\xff\xff"),
+    "a message that does not read": giop.message(giop.REQUEST, b"\0\0\0\1", minor=0),
 }
 OF_CLIENTS = {
     **ENDS,
@@ -85,11 +84,55 @@ OF_SERVERS = {
 WRONG_FT = (giop.FT_REQUEST, b"\0\0\0\0\0\0\0\x09A")
 REFUSED = {
     "it has too many service contexts": (giop.request(1, b"k", "add", contexts=[(99, b"")] * 5000), "IMP_LIMIT"),
-    "its FT_REQUEST is not valid": (giop.request(1, b"k", "add", contexts=[WRONG_FT]), "BAD_CONTEXT"),
+    "its FT_REQUEST is not valid": (giop.request(1, b"k", "add", contexts=[WRONG_FT]), "MARSHAL"),
+    "its client id is too long": (request(1, b"k", "add", client=b"A" * 257, number=1), "BAD_CONTEXT"),
     "it is too long": (giop.request(1, b"k", "add", bytes(16 << 20)), "IMP_LIMIT"),
+    "it does not read": (giop.message(giop.REQUEST, b"\0\0\0\1\3\0\0\0\0\0\0\0\xff\xff\xff\xff"), "MARSHAL"),
+    "too many are partial": (b"".join(begun(index) for index in (2, 3, 1)), "IMP_LIMIT"),
     "its target is no object key": (giop.request(1, (giop.BY_PROFILE, (0, b"\0\1\2\0")), "add"), None),
 }
 ROLES = ("guard", "retry")
+
+
+def hangs(came: giop.Message) -> bytes | None:
+    """An answer to a request, unless it is one that hangs."""
+    return None if came.operation == b"hang" else giop.reply(came.request_id)
+
+
+class Asynchronous:
+    """A server of one thread for all of its connections. `answer` gives what is answered to a request, or None where
+    that is nothing."""
+
+    def __init__(self, answer: Callable[[giop.Message], bytes | None]) -> None:
+        self.answer, self.count = answer, 0
+        self.loop = asyncio.new_event_loop()
+        server = self.loop.run_until_complete(asyncio.start_server(self.serve, "127.0.0.1", 0))
+        self.port = server.sockets[0].getsockname()[1]
+        self.thread = threading.Thread(target=self.loop.run_forever, daemon=True)
+
+    async def serve(self, reader: asyncio.StreamReader, writer: asyncio.StreamWriter) -> None:
+        with contextlib.suppress(asyncio.IncompleteReadError, asyncio.CancelledError, OSError):
+            while True:
+                head = await reader.readexactly(giop.HEADER)
+                came = giop.read(head + await reader.readexactly(giop.size_of(head) - giop.HEADER))
+                self.count += came.kind == giop.REQUEST
+                is_asked = came.kind == giop.LOCATE
+                octets = giop.located(came.request_id, giop.OBJECT_HERE) if is_asked else self.answer(came)
+                if octets is not None:
+                    writer.write(octets)
+                    await writer.drain()
+
+    def __enter__(self) -> Asynchronous:
+        self.thread.start()
+        return self
+
+    def __exit__(self, *_: object) -> None:
+        self.loop.call_soon_threadsafe(self.loop.stop)
+        self.thread.join()
+        for task in asyncio.all_tasks(self.loop):
+            task.cancel()
+        self.loop.run_until_complete(asyncio.sleep(0.01))
+        self.loop.close()
 
 
 class Hostile(unittest.TestCase):
@@ -163,6 +206,46 @@ class Hostile(unittest.TestCase):
                     self.assertEqual(peer.message().status, giop.NO_EXCEPTION)
                     self.assertEqual(relay.said().count(f'why="{why}"'), lines + 1)
 
+    @base.each(lambda: [(role, role) for role in ROLES])
+    def test_a_request_at_fault_is_no_fault_of_others(self, role):
+        """Requests that come between its fragments are performed, and it is told what it is."""
+        for minor, broken in ((2, rest(1, order=LITTLE)), (1, rest(1, minor=1, order=LITTLE)), (1, rest(1, minor=1))):
+            with self.subTest(minor=minor), self.relay(role) as relay, Peer(relay.port) as peer:
+                first = bytearray(giop.message(giop.REQUEST, b"\0\0\0\0" + b"\0\0\0\1" + b"\1\xff\xff\xff" * 2, minor=1))
+                first[6] |= MORE
+                peer.tell(begun(1) if minor == 2 else bytes(first))
+                peer.tell(request(5, b"k", "add"))
+                self.assertEqual(peer.message().status, giop.NO_EXCEPTION)
+                peer.tell(broken)
+                peer.wants(system(1, "MARSHAL", giop.NO, minor=minor))
+                peer.tell(request(6, b"k", "add"))
+                self.assertEqual(peer.message().status, giop.NO_EXCEPTION)
+
+    def test_a_reply_at_fault_is_no_fault_of_others(self):
+        """Who asked is told MAYBE at once; who waits on the same connection is not touched."""
+        counters = Counters()
+        with Server() as server, Relay("guard", "--server", f"127.0.0.1:{server.port}", "--store", "memory",
+                                       "--connections", "1", *counters.words) as guard, contextlib.ExitStack() as stack:
+            guard.begin()
+            other = stack.enter_context(Peer(guard.port))
+            for minor, at in ((2, 12), (1, 16)):
+                with self.subTest(minor=minor):
+                    broken, is_over = giop.reply(0, minor=minor, status=99), threading.Event()
+
+                    def answer(came, broken=broken, at=at, is_over=is_over):
+                        if came.minor == 2 and came.request_id % 2 == 1:
+                            is_over.wait(relays.SECONDS)
+                            return None
+                        return broken[:at] + struct.pack(">I", came.request_id) + broken[at + 4:]
+
+                    server.answer, before = answer, len(server.performed)
+                    other.tell(request(9, b"k", "add"))
+                    until(lambda before=before: len(server.performed) > before, "the server has the other's request")
+                    ask(guard.port, request(7, b"k", "add", minor=minor), system(7, "COMM_FAILURE", MAYBE, minor=minor))
+                    is_over.set()
+                    self.assertEqual(other.message().status, giop.NO_EXCEPTION)
+            self.assertEqual(server.connections, 1)
+
     def servers_make_no_sense(self, *words):
         """Before a guard with these words: who waits is told MAYBE, the connection ends with its reason, and others are
         served."""
@@ -211,20 +294,49 @@ class Hostile(unittest.TestCase):
                     self.assertIn(f'why="{why}"', retry.said())
 
     def test_a_flood_of_client_ids(self):
-        """Each has its share of what is under way; who comes behind them is served once one is answered."""
+        """Each has its share of what is under way, of which one address has less than three of four; who comes behind
+        them is served once one is answered."""
         with Server() as server, Relay("guard", "--server", f"127.0.0.1:{server.port}", "--store", "memory",
                                        "--share", "1") as guard, contextlib.ExitStack() as stack:
             guard.begin()
             flood = [stack.enter_context(Peer(guard.port)) for _ in range(20)]
             for index, peer in enumerate(flood):
                 peer.tell(b"".join(request(number, b"k", "add", number=number, client=f"{index}.{number}")
-                                   for number in range(200)))
+                                   for number in range(140)))
             begun_at = time.monotonic()
             ask(guard.port, request(1, b"k", "mine", number=1, client=b"mine"),
                 giop.reply(1, number_body(0))[:12])
             self.assertLess(time.monotonic() - begun_at, 10)
-            until(lambda: len(server.performed) == 4001, "all are performed")
+            until(lambda: len(server.performed) == 2801, "all are performed")
             want(len({came.operation for came in server.performed}), 2)
+
+    @base.each(lambda: [("retry and guard", 5), ("guard", 17)])
+    def test_calls_that_hang(self, count):
+        """256 on each of so many connections, without a key at a guard alone: calls of another connection return at once,
+        and so do those of one that comes later."""
+        with contextlib.ExitStack() as stack:
+            server = stack.enter_context(Asynchronous(hangs))
+            relay = stack.enter_context(Relay("guard", "--server", f"127.0.0.1:{server.port}", "--store", "memory",
+                                              "--drain", "0.1"))
+            relay.begin()
+            if count == 5:
+                relay = stack.enter_context(Relay("retry", "--guard", f"127.0.0.1:{relay.port}", "--drain", "0.1"))
+                relay.begin()
+            before = stack.enter_context(Peer(relay.port))
+            before.tell(request(1, b"k", "add"))
+            before.wants(giop.reply(1))
+            peers = [stack.enter_context(Peer(relay.port)) for _ in range(count)]
+            for peer in peers:
+                peer.tell(b"".join(request(index, b"k", "hang") for index in range(256)))
+            # (of a guard's places those of one address have four of seven)
+            until(lambda: server.count >= min(256 * count, 2300), "they hang")
+            for peer in (before, stack.enter_context(Peer(relay.port))):
+                begun_at = time.monotonic()
+                for index in range(20):
+                    peer.tell(request(index, b"k", "add"))
+                    peer.wants(giop.reply(index))
+                # (who waits for a place does so for a second each time)
+                self.assertLess(time.monotonic() - begun_at, 15)
 
     @base.each(lambda: [("guard", "guard"), ("retry", "retry")])
     def test_silent_and_slow_peers(self, role):

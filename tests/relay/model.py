@@ -1,8 +1,8 @@
 """A model of two guards that share a store, searched whole: what is promised of a request holds in each state.
 
 It has one request, whose client sends it several times, to either guard; the guards, which crash, start again, are
-stopped past their lease and go on, and lose the answer to a transaction; a server, which is lost, or says goodbye before
-it performs; and the store, each of whose steps is one transaction. Promised is
+stopped past their lease and go on, and lose the answer to a transaction; a server, which is lost, or says goodbye or
+forwards before it performs; and the store, each of whose steps is one transaction. Promised is
 
 - once: the server performs the request at most once;
 - same: each reply that carries an outcome carries the same one;
@@ -21,11 +21,13 @@ from typing import NamedTuple
 
 GUARDS = (0, 1)
 MAYBE = "maybe"
-# what may happen at most: transmissions, crashes, stops past a lease, servers lost, goodbyes, answers of the store lost
+# what may happen at most: transmissions, crashes, stops past a lease, servers lost, goodbyes or forwards, answers of the
+# store lost
 BOUNDS = (3, 1, 1, 1, 1, 1)
 # .. and with a wrong step, most of which break their promise within less
 OF_WRONG = (2, 1, 1, 1, 1, 1)
 SEND, CRASH, STOP, LOSE, GOODBYE, DOUBT = range(6)
+FORWARD = "forward"
 
 # each wrong step, and the promise that it breaks
 WRONG = {
@@ -40,6 +42,7 @@ WRONG = {
     "what is forgotten is answered": "same",
     "a guard that starts again takes up its old life": "ends",
     "what is in doubt is not undone": "ends",
+    "a forward is kept": "told",
 }
 
 
@@ -176,13 +179,14 @@ class Model:
         yield "can't be sent", self.has(state, task._replace(at="undo"))
 
     def at_undo(self, state: State, task: Task) -> Iterator[tuple[str, State]]:
-        """Nothing was sent: the row goes, and TRANSIENT is told, of which nothing is kept."""
+        """Nothing was sent, or it was forwarded: the row goes, and TRANSIENT or the forward is told, of which nothing is
+        kept."""
         is_ours = state.row == ("begun", task.guard, task.life)
         goes = is_ours or self.is_wrong("undo without its condition")
         yield "undo", state._replace(row=None) if goes else state
 
     def at_sent(self, state: State, task: Task) -> Iterator[tuple[str, State]]:
-        """The server performs it and replies, is lost before or behind that, or says goodbye before it."""
+        """The server performs it and replies, is lost before or behind that, or says goodbye or forwards before it."""
         count = state.performed + 1
         replied = task._replace(at="received", knows=count)
         yield "the server replies", self.has(state._replace(performed=count), replied)
@@ -192,6 +196,11 @@ class Model:
                 yield "the server is lost", self.has(lost, unknown)
         if left := self.takes(state, GOODBYE):
             yield "the server says goodbye", self.has(left, task._replace(at="begun"))
+            if self.is_wrong("a forward is kept"):
+                yield "the server forwards", self.has(left, task._replace(at="received", knows=FORWARD))
+            else:
+                # (what is told then is no outcome: its client sends again, and that is a transmission)
+                yield "the server forwards", self.has(left, task._replace(at="undo"))
 
     def at_received(self, state: State, task: Task) -> Iterator[tuple[str, State]]:
         """What is known is written, where the row is still this guard's; else what the row says counts."""
@@ -229,7 +238,7 @@ def broken(state: State, ends: bool) -> str | None:
         return "once"
     if len(state.replies) > 1:
         return "same"
-    if MAYBE in state.replies and not state.lost:
+    if MAYBE in state.replies and not state.lost or FORWARD in state.replies:
         return "told"
     if ends and state.tasks:
         return "ends"

@@ -1,4 +1,4 @@
-"""What an operator sees and says: counters, readiness, lines of the log, limits, certificates, and the program's words."""
+"""What an operator sees and says: counters, readiness, lines of the log, limits, stores, and the program's words."""
 from __future__ import annotations
 
 import contextlib
@@ -6,7 +6,7 @@ import os
 import re
 import signal
 import socket
-import ssl
+import sqlite3
 import subprocess
 import tempfile
 import threading
@@ -14,7 +14,7 @@ import time
 import unittest
 import urllib.error
 import urllib.request
-from collections.abc import Callable, Iterator
+from collections.abc import Iterator
 
 from tests import base, giop
 from tests.giop import MAYBE, NO, Reference
@@ -139,6 +139,9 @@ class Counts(unittest.TestCase):
             until(lambda: counters.of("oldest_parked_seconds") > 0.3, "it grows older")
             want(counters.of("connections"), 2)
             want(counters.of("server_connections"), 1)
+            # (what is answered meanwhile says that the connection is alive)
+            server.answer = None
+            ask(guard.port, request(2, KEY, "add"), giop.reply(2, number_body(2)))
             for one in (peer, other):
                 one.wants(system(1, "TIMEOUT", MAYBE))
             until(lambda: (counters.of("parked"), counters.of("waiting")) == (0, 0), "neither is")
@@ -203,6 +206,14 @@ class Ready(unittest.TestCase):
 
 # ---- limits ----
 
+def is_served(port: int) -> bool:
+    """Whether a client that connects is answered, and not closed."""
+    with contextlib.suppress(ConnectionError), Peer(port) as peer:
+        peer.tell(giop.locate(1, KEY))
+        return peer.received(giop.HEADER) != b""
+    return False
+
+
 class Limits(unittest.TestCase):
     """What a peer may take. Who takes more is ended with its reason, counted and said; nobody else notices."""
 
@@ -247,6 +258,25 @@ class Limits(unittest.TestCase):
                 here = giop.located(1, giop.OBJECT_HERE)
                 want(elsewhere.recv(len(here), socket.MSG_WAITALL), here)
 
+    @needs("sh")
+    def test_descriptors(self):
+        """Where the system allows few, some are kept for servers: what is under way finds one though more clients come
+        than there is room for, and it is said. Where the process may allow itself more it does."""
+        for words, is_short in (("ulimit -n 200", True), ("ulimit -Sn 200", False)):
+            with self.subTest(words), Server() as server, contextlib.ExitStack() as stack:
+                guard = Relay("guard", "--server", f"127.0.0.1:{server.port}", "--store", "memory")
+                guard.words = ("sh", "-c", f'{words}; exec "$0" "$@"', *guard.words)
+                stack.enter_context(guard)
+                guard.begin()
+                with Peer(guard.port) as before, contextlib.ExitStack() as idle:
+                    for _ in range(200):
+                        idle.enter_context(Peer(guard.port))
+                    before.tell(request(1, KEY, "add") + request(2, KEY, "add", number=1))
+                    want(sorted([before.message().request_id, before.message().request_id]), [1, 2])
+                    until(lambda: not is_short or guard.said().count("there are too many") == 101, "101 are closed")
+                until(lambda: is_served(guard.port), "who comes later is served")
+                want("peers=100 descriptors=200" in guard.said(), is_short)
+
     def test_who_takes_nothing(self):
         """It has --stalled seconds."""
         with self.ended("the peer takes nothing", "--stalled", "1") as (server, guard), Peer(guard.port, 4096) as peer:
@@ -267,8 +297,7 @@ class Limits(unittest.TestCase):
 
     def test_messages(self):
         """A message may have --message octets, and those that are partial --partial."""
-        with self.ended("too many messages are partial", "--message", "10000", "--partial", "30000") as (_, guard), \
-                Peer(guard.port) as peer:
+        with counted("--message", "10000", "--partial", "30000") as (_, guard, counters), Peer(guard.port) as peer:
             peer.tell(request(1, KEY, "any", bytes(12_000)))
             peer.wants(system(1, "IMP_LIMIT", NO))
             begun = [next(giop.frames_of(giop.cut(request(index, KEY, "any", bytes(4000)), [1020])[0])) for index in range(4)]
@@ -276,8 +305,9 @@ class Limits(unittest.TestCase):
                 peer.tell(frame)
             peer.tell(giop.locate(7, KEY))
             peer.wants(giop.located(7, giop.OBJECT_HERE))
-            peer.tell(begun[3])
-            peer.wants(giop.MESSAGE_ERROR)
+            with counters.grow(refused_total__too_many_are_partial=1):
+                peer.tell(begun[3])
+                peer.wants(system(3, "IMP_LIMIT", NO))
 
     def test_how_long_an_outcome_is_kept(self):
         """What expires later than --keep says is refused, and not sent; what expires before that is performed."""
@@ -292,17 +322,26 @@ class Limits(unittest.TestCase):
             want(len(server.performed), 1)
 
     def test_requests_under_way(self):
-        """More than --parked wait until one is answered."""
-        with counted("--parked", "4") as (server, guard, counters), Peer(guard.port) as peer:
+        """Of --parked a connection has a part, others find a place beside it, and no more are under way; who has to wait
+        has its turn once one is answered."""
+        with counted("--parked", "10") as (server, guard, counters), Peer(guard.port) as peer, contextlib.ExitStack() as stack:
             may_go_on = threading.Event()
             server.answer = lambda _: may_go_on.wait(relays.SECONDS) and None
-            for index in range(6):
-                peer.tell(request(index, KEY, "slow"))
-            until(lambda: counters.of("parked") == 4, "four are under way")
+            peer.tell(b"".join(request(index, KEY, "slow") for index in range(9)))
+            until(lambda: counters.of("parked") == 5, "five are under way")
+            others = [stack.enter_context(Peer(guard.port, address=f"127.0.0.{index}")) for index in range(2, 9)]
+            for other in others[:5]:
+                other.tell(request(1, KEY, "slow"))
+            until(lambda: counters.of("parked") == 10, "five of others are")
+            for other in others[5:]:
+                other.tell(request(1, KEY, "slow"))
+                other.tell(request(2, KEY, "slow"))
             time.sleep(0.3)
-            want((counters.of("parked"), len(server.performed)), (4, 4))
+            want((counters.of("parked"), len(server.performed)), (10, 10))
             may_go_on.set()
-            want(sorted(peer.message().request_id for _ in range(6)), list(range(6)))
+            want(sorted(peer.message().request_id for _ in range(9)), list(range(9)))
+            for other, count in zip(others, (1, 1, 1, 1, 1, 2, 2)):
+                want(sorted(other.message().request_id for _ in range(count)), list(range(1, count + 1)))
 
     @base.each(lambda: [("1", 1), ("3", 3)])
     def test_connections_to_a_server(self, most: int) -> None:
@@ -317,129 +356,69 @@ class Limits(unittest.TestCase):
             may_go_on.set()
 
 
-# ---- certificates ----
+# ---- stores ----
 
-CERTIFIED = ("retry", "guard", "other", "stranger")
-
-
-@contextlib.contextmanager
-def certificates() -> Iterator[Callable[[str], str]]:
-    """A folder of two authorities, and of certificates of the first, but that of a stranger."""
-    with tempfile.TemporaryDirectory() as folder:
-        def file(name: str) -> str:
-            return os.path.join(folder, name)
-
-        def openssl(*words: str) -> None:
-            ran = subprocess.run(["openssl", *words], capture_output=True, text=True, check=False, cwd=folder)
-            if ran.returncode != 0:
-                raise AssertionError(ran.stderr)
-
-        key = ["-newkey", "ec", "-pkeyopt", "ec_paramgen_curve:prime256v1", "-noenc"]
-        for name in ("ours", "theirs"):
-            openssl("req", "-x509", *key, "-keyout", f"{name}.key", "-out", f"{name}.pem", "-subj", f"/CN={name}",
-                    "-days", "2")
-        for name in CERTIFIED:
-            of = "theirs" if name == "stranger" else "ours"
-            openssl("req", *key, "-keyout", f"{name}.key", "-out", f"{name}.csr", "-subj", f"/CN={name}")
-            with open(file("names"), "w", encoding="ascii") as names:
-                names.write("subjectAltName=DNS:localhost,IP:127.0.0.1")
-            openssl("x509", "-req", "-in", f"{name}.csr", "-CA", f"{of}.pem", "-CAkey", f"{of}.key", "-CAcreateserial",
-                    "-days", "2", "-extfile", "names", "-out", f"{name}.pem")
-        yield file
-
-
-@needs("openssl")
-class Certificates(unittest.TestCase):
-    """TLS between relays, and who may use which client ids."""
+class Stores(unittest.TestCase):
+    """What an operator does with a store in a file."""
 
     @classmethod
     def setUpClass(cls):
         relays.program()
-        stack = contextlib.ExitStack()
-        cls.addClassCleanup(stack.close)
-        cls.file = staticmethod(stack.enter_context(certificates()))
 
-    def words(self, name: str, authority: str = "ours") -> list[str]:
-        return ["--certificate", self.file(f"{name}.pem"), "--key", self.file(f"{name}.key"),
-                "--authorities", self.file(f"{authority}.pem")]
+    def lines(self, *words: str) -> list[str]:
+        """What the program prints of a store that is right."""
+        status, out, err = said_by("store", *words)
+        want((status, err), (0, ""))
+        return out.splitlines()
 
-    @contextlib.contextmanager
-    def guard(self, clients: str = "retry retry.\nother *\n") -> Iterator[tuple[Server, Relay, Counters]]:
-        with open(self.file("clients"), "w", encoding="ascii") as to:
-            to.write(clients)
-        with counted(*self.words("guard"), "--clients", self.file("clients")) as made:
-            yield made
-
-    @contextlib.contextmanager
-    def secured(self, guard: Relay, name: str) -> Iterator[Peer]:
-        """A client that shows a certificate."""
-        context = ssl.create_default_context(cafile=self.file("ours.pem"))
-        context.load_cert_chain(self.file(f"{name}.pem"), self.file(f"{name}.key"))
-        with Peer(guard.port) as peer:
-            peer.socket = context.wrap_socket(peer.socket, server_hostname="localhost")
-            yield peer
-
-    def test_two_relays(self):
-        """A request goes over TLS, under a client id that the certificate of retry may use."""
-        with self.guard() as (server, guard, _), \
-                Relay("retry", "--guard", f"localhost:{guard.port}", *self.words("retry")) as retry:
-            retry.begin()
-            ask(retry.port, request(1, KEY, "add"), giop.reply(1, number_body(1)))
-            with Peer(guard.port) as plain:
-                plain.tell(request(1, KEY, "add"))
-                with contextlib.suppress(ConnectionResetError):
-                    self.assertNotIn(b"GIOP", plain.received(100))
-            want(len(server.performed), 1)
-
-    def test_client_ids(self):
-        """A certificate may use those that the file says, and another's outcomes are not told."""
-        with self.guard() as (server, guard, counters):
-            for name, client, is_allowed in (("retry", b"retry.1", True), ("retry", b"other.1", False),
-                                             ("other", b"retry.1", True), ("other", b"other.1", True)):
-                refused = int(not is_allowed)
-                with counters.grow(refused_total__its_client_id_is_not_for_this_certificate=refused), \
-                        self.secured(guard, name) as peer:
-                    peer.tell(request(1, KEY, "add", number=1, client=client))
-                    want(peer.message().status, giop.NO_EXCEPTION if is_allowed else giop.SYSTEM_EXCEPTION)
-            want(len(server.performed), 2)
-            line = next(line for line in guard.said().splitlines() if "a request is refused" in line)
-            for word in ('names=["retry", "localhost"]', "client=other.1", "not for this certificate"):
-                self.assertIn(word, line)
-        with self.guard("nobody x\n") as (server, guard, _), self.secured(guard, "retry") as peer:
-            peer.tell(request(1, KEY, "add", number=1, client=b"retry.1"))
-            peer.wants(system(1, "NO_PERMISSION", NO))
-            want(server.performed, [])
-
-    def test_strangers(self):
-        """Who shows a certificate of another authority or none, or says nothing, is ended with its reason; others are
-        served meanwhile."""
-        with self.guard() as (_, guard, counters), self.secured(guard, "retry") as other:
-            with counters.grow(connections_ended_total__no_handshake=3):
-                with contextlib.suppress(OSError), self.secured(guard, "stranger") as peer:
-                    peer.tell(giop.locate(1, KEY))
-                    want(peer.received(1), b"")
-                with contextlib.suppress(OSError), Peer(guard.port) as peer:
-                    context = ssl.create_default_context(cafile=self.file("ours.pem"))
-                    peer.socket = context.wrap_socket(peer.socket, server_hostname="localhost")
-                    peer.tell(giop.locate(1, KEY))
-                    want(peer.received(1), b"")
+    def test_copies(self):
+        """A store is shown, checked and copied while its guard runs, and another guard of it is not begun; the copy is one
+        of that moment, and a guard serves it."""
+        with tempfile.TemporaryDirectory() as folder:
+            file, copy = os.path.join(folder, "kept"), os.path.join(folder, "copy")
+            with guarded(store=file) as (server, guard):
+                ask(guard.port, request(1, KEY, "add", number=1), giop.reply(1, number_body(1)))
+                may_go_on = threading.Event()
+                server.answer = lambda _: may_go_on.wait(relays.SECONDS) and None
                 with Peer(guard.port) as peer:
-                    peer.ended("after the time that a handshake has")
-            other.tell(request(1, KEY, "add"))
-            other.wants(giop.reply(1, number_body(1)))
-            ends = [line for line in guard.said().splitlines() if 'why="no handshake"' in line][-3:]
-            whys = ("verify failed", "did not return a certificate", "timed out")
-            want([why in end for why, end in zip(whys, ends)], [True] * 3)
+                    peer.tell(request(1, KEY, "add", number=2))
+                    until(lambda: len(server.performed) == 2, "it is performed")
+                    shown = self.lines("show", file)
+                    for line in ("outcomes 1", "begun 1"):
+                        self.assertIn(line, shown)
+                    self.assertRegex("\n".join(shown), "\nbegun A 2 expires ")
+                    want((self.lines("check", file), self.lines("copy", file, copy)), ([], []))
+                    may_go_on.set()
+                    peer.wants(giop.reply(1, number_body(2)))
+                want([oct(os.stat(os.path.join(folder, name)).st_mode & 0o777) for name in sorted(os.listdir(folder))],
+                     ["0o600"] * 6)
+                status, _, err = said_by("guard", "--listen", "127.0.0.1:0", "--server", "127.0.0.1:1", "--store", file)
+                want((status, "another guard has it" in err), (1, True))
+                guard.end(signal.SIGTERM)
+            want(sorted(os.listdir(folder)), ["copy", "kept", "kept-begun", "kept-guard"])
+            with guarded(store=copy) as (server, guard):
+                for number, answer in ((1, giop.reply(1, number_body(1))), (2, system(1, "COMM_FAILURE", MAYBE)),
+                                       (3, giop.reply(1, number_body(1)))):
+                    ask(guard.port, request(1, KEY, "add", number=number), answer)
+            status, _, err = said_by("store", "copy", file, copy)
+            want((status, err), (1, f"lemonrudder: {copy}: is there already\n"))
 
-    def test_a_guard_that_is_a_stranger(self):
-        """One whose certificate is of another authority, or of another host, is sent nothing."""
-        with counted(*self.words("stranger", "ours")) as (server, guard, _):
-            for host in ("localhost", "127.0.0.3"):
-                with Relay("retry", "--guard", f"{host}:{guard.port}", "--timeout", "1", *self.words("retry")) as retry:
-                    retry.begin()
-                    ask(retry.port, request(1, KEY, "add"), system(1, "TIMEOUT", NO))
-                    self.assertIn("not connected", retry.said())
-            want(server.performed, [])
+    def test_a_file_that_is_spoilt(self):
+        """Each fault is a line, and the status 1; a file that is no store is not changed."""
+        with tempfile.TemporaryDirectory() as folder:
+            file = os.path.join(folder, "kept")
+            with guarded(store=file) as (_, guard):
+                ask(guard.port, request(1, KEY, "add", number=1), giop.reply(1, number_body(1)))
+                guard.end(signal.SIGTERM)
+            with contextlib.closing(sqlite3.connect(file)) as link:
+                link.execute("UPDATE outcome SET status = 9")
+                link.commit()
+            want(said_by("store", "check", file), (1, "", f"lemonrudder: {file}: 1 outcomes are none that a guard writes\n"))
+            with open(os.path.join(folder, "text"), "w", encoding="ascii") as text:
+                text.write("no store " * 99)
+            for deed in ("show", "check"):
+                status, out, err = said_by("store", deed, text.name)
+                want((status, out, err), (1, "", f"lemonrudder: {text.name}: file is not a database\n"))
 
 
 # ---- the program's words ----
@@ -460,7 +439,7 @@ class Words(unittest.TestCase):
     def test_help(self):
         """What has to be said of a role stands above limits, and those above what is of TLS."""
         for role, words in (("guard", ("--server", "--listen", "\nLimits:", "--parked", "--peers", "\nTLS", "--clients")),
-                            ("retry", ("--guard", "--listen", "\nLimits:", "--peers", "\nTLS", "--key"))):
+                            ("retry", ("--guard", "--listen", "\nLimits:", "--parked", "--peers", "\nTLS", "--key"))):
             status, out, _ = said_by(role, "--help")
             places = [out.find(word + " " if word[0] == "-" else word) for word in words]
             want((status, -1 in places, places), (0, False, sorted(places)))
@@ -505,14 +484,20 @@ class Words(unittest.TestCase):
             status, _, err = said_by("guard", "--config", file)
             want((status, err.startswith("lemonrudder: ")), (2, True))
 
+    def test_a_guard_is_told_its_store(self):
+        """Where nothing says it, it is said what may be given, and nothing is begun."""
+        status, out, err = said_by("guard", "--listen", "127.0.0.1:0", "--server", "127.0.0.1:1")
+        want((status, out), (2, ""))
+        self.assertRegex(err, "^lemonrudder: store: nothing is said of it; give a file as outcomes.sqlite, .*memory")
+
     def test_what_leads_back_to_it(self):
         """A relay whose server or guard would be itself is not begun, or sends nothing there."""
         for role, which in (("guard", "server"), ("retry", "guard")):
-            status, _, err = said_by(role, "--listen", "127.0.0.1:1", f"--{which}", "127.0.0.1:1")
+            store = ["--store", "memory"] if role == "guard" else []
+            status, _, err = said_by(role, "--listen", "127.0.0.1:1", f"--{which}", "127.0.0.1:1", *store)
             want((status, err), (2, f"lemonrudder: {which}: it listens itself at 127.0.0.1:1\n"))
             with tempfile.TemporaryDirectory() as folder:
                 port = relays.free_port()
-                store = ["--store", "memory"] if role == "guard" else []
                 with relays.Life(relays.program(), role, "--listen", f"0.0.0.0:{port}", f"--{which}", f"localhost:{port}",
                                  "--timeout", "1", *store) as relay:
                     relay.begin()

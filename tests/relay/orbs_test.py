@@ -6,6 +6,7 @@ hundreds.
 """
 from __future__ import annotations
 
+import collections
 import os
 import random
 import re
@@ -18,6 +19,7 @@ import unittest
 from tests import base
 from tests.programs import ROOT, needs
 from tests.relay import relays
+from tests.relay.certificates_test import Folder
 from tests.relay.relays import Calling, judge, results_differ, world
 
 EXAMPLES = os.path.join(ROOT, "examples")
@@ -26,6 +28,14 @@ GUARD_POINTS = {"before-begin": 0, "begun": 1, "sent": 1, "received": 1, "finish
 RETRY_POINTS = {"asked": 1, "sent": 1, "completed": 1}
 POINTS = [(f"{role} {point}", (role, point, maybe)) for role, points in
           (("guard", GUARD_POINTS), ("retry", RETRY_POINTS)) for point, maybe in points.items()]
+# how often a ServantLocator forwards a call, how, whether the guard knows where `retry` is, to which the server's references
+# lead, and what each is told
+HOPS = [("once", ("1", "once"), False, "returned"), ("for good", ("1", "good"), True, "returned"),
+        ("three", ("3", "once"), False, "returned"), ("three, published", ("3", "once"), True, "returned"),
+        ("round", ("1", "round"), False, "IMP_LIMIT NO")]
+# where a guard is killed whose server forwards, and how often MAYBE is told then; nobody knows of a forward that a guard
+# took with it
+LED_POINTS = {"led": 1, "undone": 0}
 # how many calls are made while all is disturbed
 CALLS = int(os.environ.get("RELAY_CALLS", "300"))
 THREADS = 8
@@ -64,6 +74,21 @@ class Orbs(unittest.TestCase):
             made.settle()
             self.assertEqual(set(made.server.performed().values()), {1})
             self.assertEqual(sum(token.startswith("tell.") for token in made.server.performed()), 20)
+
+    def test_long_octets_pass_in_each_version(self):
+        """A message of 1.1 of more than 8 kB comes of omniORB in one frame and an empty Fragment, each way. Slow calls of
+        others, on the same connections, are not touched."""
+        with world(random.Random(1)) as made:
+            slow = made.calls("slow", 8, 8, "1000")
+            for version in ("1.0", "1.1", "1.2"):
+                with self.subTest(version):
+                    answers = made.calls("long", 0, kind="long", version=version).answers()
+                    self.assertEqual(answers["other.1"].split()[0], "returned")
+            told, performed = slow.answers(), made.server.performed()
+            self.assertEqual(performed.pop("other.1"), 3)
+            self.assertEqual(judge(told, performed), {"returned": 8})
+            for life in (made.retry, made.guard):
+                self.assertNotIn("fragments", life.said())
 
     def test_a_client_that_sends_ft_request(self):
         """A call that is sent again in another process acts twice on omniORB, and once through a guard alone, by a
@@ -131,6 +156,35 @@ class Orbs(unittest.TestCase):
             told = judge(answers, made.server.performed(), most)
             self.assertGreaterEqual(sum(told[words] for words in told if words.endswith("MAYBE")), maybe, told)
 
+    @base.each(lambda: [(name, others) for name, *others in HOPS])
+    def test_a_server_that_forwards(self, given):
+        """What its ServantLocator forwards acts once, where that leads; and who is led round and round is told so soon."""
+        hops, is_published, told = given
+        with world(random.Random(1), hops=hops, is_published=is_published) as made:
+            begun = time.monotonic()
+            answers = made.calls("call", 40, 4).answers()
+            self.assertEqual(judge(answers, made.server.performed()), {told: 40})
+            self.assertEqual(len(made.server.performed()), 40 if told == "returned" else 0)
+            self.assertLess(time.monotonic() - begun, made.timeout / 4)
+            said = made.retry.said()
+            self.assertEqual(("after too many hops" in said, "no guard of the list" in said), (told != "returned", False))
+
+    @base.each(lambda: [(point, (point, maybe)) for point, maybe in LED_POINTS.items()])
+    def test_killed_where_a_server_forwards(self, given):
+        """The guard dies once the forward has come, or once its key is undone: nothing acts twice."""
+        point, most = given
+        with world(random.Random(1), hops=("3", "once")) as made:
+            made.guard.end(signal.SIGTERM)
+            made.guard.begin(f"{point}:5")
+            calling = made.calls("call", 15)
+            self.assertTrue(ended_by_itself(calling, made.guard), "it did not die there")
+            self.assertEqual(made.guard.end(), -signal.SIGABRT)
+            made.guard.begin()
+            answers = calling.answers()
+            made.settle()
+            told = judge(answers, made.server.performed(), most)
+            self.assertEqual(told["returned"], 15 - most, told)
+
     def test_a_server_that_is_killed(self):
         """Who waits for it is told MAYBE; it is begun again, and others are served."""
         with world(random.Random(1)) as made:
@@ -145,14 +199,26 @@ class Orbs(unittest.TestCase):
 
     @base.each_seed(67, 1)
     def test_all_at_once(self, seed):
-        """The link loses, and relays and server are killed and stopped by chance."""
-        dice = random.Random(seed)
-        with world(dice, is_calm=False) as made:
-            calling, kills = made.calls("call", CALLS, THREADS), 0
-            lives = [made.guard, made.guard, made.retry, made.server]
-            while not calling.is_over():
+        """The link loses, and relays and server are killed and stopped by chance, amid calls of each version, short and long,
+        and of objects that forward."""
+        self.all_at_once(seed, CALLS, is_published=True)
+
+    @needs("openssl")
+    @base.each_seed(73, 1)
+    def test_all_at_once_over_tls(self, seed):
+        """The same, where the relays speak TLS, and the guard does not know of the other."""
+        with tempfile.TemporaryDirectory() as folder:
+            self.all_at_once(seed, CALLS // 4, tls=Folder(folder).words)
+
+    def all_at_once(self, seed: int, count: int, **others: object) -> None:
+        """Kills and stops relays and server by chance while clients make so many calls."""
+        dice, kills, begun = random.Random(seed), collections.Counter(), time.monotonic()
+        with world(dice, is_calm=False, is_long=True, hops=relays.HOPS, **others) as made:
+            clients = relays.Clients(made.server, count, THREADS)
+            lives = [("guard", made.guard), ("guard", made.guard), ("retry", made.retry), ("server", made.server)]
+            while not clients.are_over():
                 time.sleep(dice.expovariate(1 / 0.4))
-                life = dice.choice(lives)
+                name, life = dice.choice(lives)
                 if dice.random() < 0.3:
                     life.tell(signal.SIGSTOP)
                     time.sleep(dice.uniform(0.05, 0.3))
@@ -160,14 +226,11 @@ class Orbs(unittest.TestCase):
                 else:
                     life.end()
                     life.begin()
-                    kills += 1
+                    kills[name] += 1
             made.link.is_calm = True
-            answers = calling.answers()
             made.settle()
-            told = judge(answers, made.server.performed(), kills * THREADS)
-            self.assertEqual(len(answers), CALLS)
-            self.assertGreater(told["returned"], CALLS // 4, told)
-            print(f"seed {seed}: {kills} kills, {made.link.cuts} cuts: {dict(told)}")
+            told = clients.judged(made.server.performed(), kills.total())
+            print(f"seed {seed}: {dict(kills)} killed, {made.link.cuts} cuts: {told}; {time.monotonic() - begun:.0f} s")
 
     def test_what_ends_in_order_answers_first(self):
         """At SIGTERM what is under way is answered, and then the connection is closed in order: nobody is told MAYBE."""

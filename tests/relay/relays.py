@@ -19,7 +19,7 @@ import tempfile
 import threading
 import time
 import unittest
-from collections.abc import Iterator
+from collections.abc import Callable, Iterator
 
 from scripts import relay
 from tests import giop_peers
@@ -28,15 +28,25 @@ from tests.programs import NEEDS, ROOT, library, tool
 HERE = os.path.join(ROOT, "tests", "relay")
 # how long anything may take on a busy machine
 SECONDS = 120
+# what a call may end in where relays and servers are killed: it is performed, or its exception is one of these
+TOLD = {"COMM_FAILURE MAYBE", "TIMEOUT MAYBE", "TRANSIENT NO", "TIMEOUT NO"}
+# how an object forwards to the one that performs: from there once, for good, and in three hops
+HOPS = ("1", "once", "1", "good", "3", "once")
 # a long message passes omniORB as well
 LONG = ["-ORBgiopMaxMsgSize", "16777216"]
 
 
 @functools.lru_cache(maxsize=None)
 def program() -> str:
-    """The program `lemonrudder`: the one that LEMONRUDDER names, or one that is built beside the library."""
-    if os.environ.get("LEMONRUDDER"):
-        return os.path.abspath(os.environ["LEMONRUDDER"])
+    """The program `lemonrudder`: the one that LEMONRUDDER names, or the one for tests."""
+    named = os.environ.get("LEMONRUDDER")
+    return os.path.abspath(named) if named else pointed()
+
+
+@functools.lru_cache(maxsize=None)
+def pointed() -> str:
+    """The program for tests, which is built beside the library: it has points at which it ends or stops, and what is
+    installed has none."""
     tool("cargo")
     lacking = relay.lacking()
     if lacking:
@@ -102,7 +112,10 @@ class Life:
         env = {**os.environ, "LEMONRUDDER_KILL": dies_at, "LEMONRUDDER_STOP": stops_at}
         if manager:
             env["NOTIFY_SOCKET"] = manager
-        self.process = subprocess.Popen(self.words, stdin=subprocess.DEVNULL, stdout=subprocess.PIPE, stderr=self.log,
+        words = list(self.words)
+        if dies_at or stops_at:
+            words[words.index(program())] = pointed()
+        self.process = subprocess.Popen(words, stdin=subprocess.DEVNULL, stdout=subprocess.PIPE, stderr=self.log,
                                         text=True, env=env)
 
     def tell(self, number: int) -> None:
@@ -170,19 +183,27 @@ class Relay(Life):
 
 
 class Server(Life):
-    """A server of omniORB that keeps what it performed in a file; its references lead to another port."""
+    """A server of omniORB that keeps what it performed in a file; its references lead to another port.
 
-    def __init__(self, folder: str, published: int) -> None:
+    With `hops`, how many and how, and so on, it has more references, of objects whose calls a ServantLocator forwards."""
+
+    def __init__(self, folder: str, published: int, hops: tuple[str, ...] = ()) -> None:
         self.port, self.file = free_port(), os.path.join(folder, "performed")
         ends = ["-ORBendPoint", f"giop:tcp:127.0.0.1:{self.port}"]
         ends += ["-ORBendPointPublish", f"giop:tcp:127.0.0.1:{published}"]
-        super().__init__(os.path.join(orbs(), "server"), self.file, *ends, *LONG)
+        self.count = 1 + len(hops) // 2
+        super().__init__(os.path.join(orbs(), "server"), self.file, *hops, *ends, *LONG)
 
     def begin(self, dies_at: str = "", stops_at: str = "") -> None:
         super().begin(dies_at, stops_at)
-        self.reference = self.process.stdout.readline().strip()
-        if not self.reference.startswith("IOR:"):
+        self.references = [self.process.stdout.readline().strip() for _ in range(self.count)]
+        if not all(reference.startswith("IOR:") for reference in self.references):
             raise AssertionError(f"the server did not begin: {self.said()}")
+
+    @property
+    def reference(self) -> str:
+        """The last one, to an object whose calls are forwarded where there is one."""
+        return self.references[-1]
 
     def performed(self) -> collections.Counter:
         """How often it performed the call of each token, in all its lives."""
@@ -195,8 +216,10 @@ class Server(Life):
 class Calling:
     """An unmodified client of omniORB that makes so many calls, by so many threads."""
 
-    def __init__(self, reference: str, name: str, count: int, threads: int = 1, kind: str = "0") -> None:
+    def __init__(self, reference: str, name: str, count: int, threads: int = 1, kind: str = "0",
+                 version: str = "1.2") -> None:
         words = [os.path.join(orbs(), "client"), reference, name, str(count), str(threads), kind, *LONG]
+        words += ["-ORBmaxGIOPVersion", version]
         self.process = subprocess.Popen(words, stdin=subprocess.DEVNULL, stdout=subprocess.PIPE,
                                         stderr=subprocess.STDOUT, text=True)
         self.lines: list[str] = []
@@ -224,11 +247,51 @@ class Calling:
         return dict(line.split(" ", 1) for line in self.lines)
 
 
-class Link:
-    """A way to a port that loses: connections are cut after some octets, reset, or slow, by chance."""
+class Clients:
+    """Clients that make so many calls at once: one of 1.2 of an object itself, by so many threads, and for each version one
+    of all objects of a server in turn, with short and long bodies."""
 
-    def __init__(self, target: int, dice: random.Random, is_calm: bool = False) -> None:
-        self.target, self.dice, self.is_calm = target, dice, is_calm
+    VERSIONS = ("1.0", "1.1", "1.2")
+
+    def __init__(self, server: Server, count: int, threads: int, kind: str = "0") -> None:
+        self.objects, each = len(server.references), max(count // 10, 4 * len(server.references))
+        self.threads, self.count = threads + 2 * len(self.VERSIONS), count
+        self.plain = Calling(server.references[0], "call", count - each * len(self.VERSIONS), threads, kind)
+        self.mixed = [Calling(",".join(server.references), f"mixed-{version}", each, 2, "mixed", version)
+                      for version in self.VERSIONS]
+
+    def are_over(self) -> bool:
+        return all(calling.is_over() for calling in (self.plain, *self.mixed))
+
+    def judged(self, performed: collections.Counter, kills: int) -> str:
+        """Looks whether all was answered, each acted at most once, and what was told is true and one of TOLD. Each kill
+        explains a MAYBE of each thread. Says what was told."""
+        plain = self.plain.answers()
+        answers = {**plain, **{token: answer for calling in self.mixed for token, answer in calling.answers().items()}}
+        told = judge(answers, performed, kills * self.threads)
+        results_differ(answers)
+        others = {token: answer for token, answer in answers.items()
+                  if answer.split()[0] != "returned" and answer not in TOLD}
+        if others:
+            raise AssertionError(f"told what nothing explains: {others}")
+        if len(answers) != self.count:
+            raise AssertionError(f"{len(answers)} calls of {self.count} were answered")
+        if told["returned"] <= self.count // 4:
+            raise AssertionError(f"few calls returned: {told}")
+        for calling in self.mixed:
+            if not any(line.split()[1] == "returned" for line in calling.lines):
+                raise AssertionError(f"no call returned: {calling.lines[-5:]}")
+        led = sum(token.startswith("mixed") and int(token.rpartition(".")[2]) % self.objects > 0 for token in answers)
+        versions = collections.Counter(token[:9] for token in answers if token.startswith("mixed"))
+        return f"{dict(told)} of {self.count}, {dict(versions)}, {led} of objects that forward"
+
+
+class Link:
+    """A way to a port that loses: connections are cut after some octets, reset, or slow, by chance. Where long messages are
+    to pass, some connections last longer."""
+
+    def __init__(self, target: int, dice: random.Random, is_calm: bool = False, is_long: bool = False) -> None:
+        self.target, self.dice, self.is_calm, self.is_long = target, dice, is_calm, is_long
         self.cuts = 0
         self.loop = asyncio.new_event_loop()
         self.thread = threading.Thread(target=self.run, daemon=True)
@@ -262,6 +325,8 @@ class Link:
             writer.transport.abort()
             return
         most = 60_000 if self.dice.random() < 0.1 else 6_000
+        if self.is_long and self.dice.random() < 0.4:
+            most = 4_000_000
         left = [1 << 60 if self.is_calm else self.dice.randrange(most)]
         ways = [asyncio.ensure_future(self.hand_on(*way, left)) for way in ((reader, onward), (there, writer))]
         try:
@@ -298,19 +363,21 @@ class World:
     """An unmodified client and server of omniORB, two relays between them, and a link between these."""
 
     def __init__(self, folder: str, dice: random.Random, *, store: str = "", is_calm: bool = True,
-                 timeout: int = SECONDS) -> None:
+                 timeout: int = SECONDS, hops: tuple[str, ...] = (), is_published: bool = False, is_long: bool = False,
+                 tls: Callable[[str], list[str]] = lambda role: []) -> None:
         self.retry_port = free_port()
-        self.server = Server(folder, self.retry_port)
+        self.server = Server(folder, self.retry_port, hops)
+        published = ["--published", f"127.0.0.1:{self.retry_port}"] if is_published else []
         self.guard = Relay("guard", "--server", f"127.0.0.1:{self.server.port}", "--timeout", str(timeout),
-                           "--store", store or os.path.join(folder, "outcomes.sqlite"))
-        self.link = Link(self.guard.port, dice, is_calm)
-        self.timeout = timeout
+                           "--store", store or os.path.join(folder, "outcomes.sqlite"), *published, *tls("guard"))
+        self.link = Link(self.guard.port, dice, is_calm, is_long)
+        self.timeout, self.tls = timeout, tls
         self.stack = contextlib.ExitStack()
 
     def __enter__(self) -> World:
         self.stack.enter_context(self.link)
         self.retry = Relay("retry", "--guard", f"127.0.0.1:{self.link.port}", "--timeout", str(self.timeout),
-                           port=self.retry_port)
+                           *self.tls("retry"), port=self.retry_port)
         for life in (self.server, self.guard, self.retry):
             self.stack.enter_context(life)
             life.begin()
@@ -319,8 +386,8 @@ class World:
     def __exit__(self, *error: object) -> None:
         self.stack.__exit__(*error)
 
-    def calls(self, name: str, count: int, threads: int = 1, kind: str = "0") -> Calling:
-        return Calling(self.server.reference, name, count, threads, kind)
+    def calls(self, name: str, count: int, threads: int = 1, kind: str = "0", version: str = "1.2") -> Calling:
+        return Calling(self.server.reference, name, count, threads, kind, version)
 
     def arrive(self, count: int) -> None:
         """Waits until so many calls were performed: who calls one way may be gone before."""

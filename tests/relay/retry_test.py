@@ -10,7 +10,7 @@ import sys
 import threading
 import time
 import unittest
-from collections.abc import Callable
+from collections.abc import Callable, Iterable
 
 from tests import base, giop
 from tests.cdr import Octets
@@ -22,6 +22,8 @@ from tests.relay.relays import Relay
 
 # the minor code of a guard that has begun nothing
 DECLINED = 0xfffff001
+# the service context by which a guard tells of its store, and whether a reply is its own refusal
+STORE = 0x4c520001
 SETS = (CODE_SETS, b"\0\0\0\0\x05\x01\0\x01\0\1\1\x09")
 
 
@@ -93,10 +95,10 @@ class Guard:
             end.close()
 
 
-def exception(came: Message, name: str, completed: int, minor: int = 0) -> bytes:
+def exception(came: Message, name: str, completed: int, minor: int = 0, contexts: Iterable[giop.Context] = ()) -> bytes:
     """A reply by a system exception."""
     return giop.reply(came.request_id, giop.system_body(name, completed, minor), status=giop.SYSTEM_EXCEPTION,
-                      minor=came.minor)
+                      minor=came.minor, contexts=contexts)
 
 
 def returned(came: Message, number: int = 7) -> bytes:
@@ -153,8 +155,16 @@ class Retry(unittest.TestCase):
                         want(dict(sent.contexts)[77], b"some")
             keys = guard.keys()
             self.assertEqual([key.number for key in keys], list(range(1, count + 1)))
-            self.assertEqual(len({key.client for key in keys}), 1)
+            # (each client's connection has an id of its own, of this life)
+            self.assertEqual(len({key.client for key in keys}), count)
+            self.assertEqual(len({key.client.rpartition(b".")[0] for key in keys}), 1)
             self.assertTrue(keys[0].client.startswith(b"east."))
+            with Peer(relay.port) as peer:
+                for request_id in (1, 2):
+                    peer.tell(request(request_id, b"k", "add"))
+                    peer.message()
+            first, second = guard.keys()[-2:]
+            self.assertEqual((first.client, first.number + 1), (second.client, second.number))
 
     def test_code_sets_of_a_connection(self):
         """They are said in each request to the guard, though a client says them once."""
@@ -170,13 +180,12 @@ class Retry(unittest.TestCase):
 
     def test_sent_again_until_it_is_answered(self):
         """After cuts, after CloseConnection, and after TRANSIENT of a guard that has begun nothing: under one key."""
-        said = [None, None, "close", "declined", "joined", "returned"]
+        said = [None, None, "close", "declined", "returned"]
 
         def answer(came, count):
             how = said[min(count, len(said)) - 1]
             return {None: lambda: None, "close": lambda: giop.CLOSE_CONNECTION,
                     "declined": lambda: exception(came, "TRANSIENT", NO, DECLINED),
-                    "joined": lambda: exception(came, "TRANSIENT", MAYBE),
                     "returned": lambda: returned(came)}[how]()
 
         with Guard(answer) as guard, retry(guard) as relay:
@@ -187,9 +196,11 @@ class Retry(unittest.TestCase):
             self.assertEqual({one.body for one in guard.requests}, {guard.requests[0].body})
 
     def test_an_outcome_is_told_as_it_is(self):
-        """Exceptions of the server, its own TRANSIENT among them, and a COMM_FAILURE that nobody knows more of."""
-        for name, completed, minor in (("TRANSIENT", NO, 3), ("COMM_FAILURE", MAYBE, 0), ("BAD_CONTEXT", NO, 0),
-                                       ("NO_RESOURCES", NO, 0), ("TRANSIENT", giop.YES, 0)):
+        """Exceptions of the server, its own TRANSIENT among them, and a COMM_FAILURE that nobody knows more of: at once."""
+        for name, completed, minor in [("COMM_FAILURE", MAYBE, 0), *(
+                (name, completed, minor) for name in ("TRANSIENT", "NO_RESOURCES", "BAD_CONTEXT")
+                for completed in (NO, MAYBE, giop.YES) for minor in (0, 3, DECLINED)
+                if completed != NO or minor != DECLINED)]:
             with self.subTest(name, completed=completed), \
                     Guard(lambda came, _: exception(came, name, completed, minor)) as guard, retry(guard) as relay:
                 relay.begin()
@@ -198,23 +209,38 @@ class Retry(unittest.TestCase):
                 self.assertEqual(len(guard.requests), 1)
 
     def test_expired_at_a_guard_after_it_was_sent_before(self):
-        """An earlier transmission may have acted: nobody is told COMPLETED_NO."""
-        with Guard(lambda came, count: None if count == 1 else exception(came, "BAD_CONTEXT", NO)) as guard, \
-                retry(guard) as relay:
-            relay.begin()
-            wanted = giop.reply(5, giop.system_body("TIMEOUT", MAYBE, 0), status=giop.SYSTEM_EXCEPTION)
-            self.asked(relay, request(5, b"k", "add"), wanted)
+        """An earlier transmission may have acted: nobody is told COMPLETED_NO. Where a server says the same, which a guard
+        tells, that arrives."""
+        for is_void, name, completed in ((1, "TIMEOUT", MAYBE), (0, "BAD_CONTEXT", NO)):
+            def answer(came, count, told=(STORE, bytes([0, is_void]) + bytes(28))):
+                return None if count == 1 else exception(came, "BAD_CONTEXT", NO, contexts=[told])
 
-    @base.each(lambda: [("never sent", NO), ("declined", MAYBE)])
-    def test_its_time_is_over(self, completed):
-        """TIMEOUT: MAYBE where it was ever sent."""
-        with Guard(lambda came, _: exception(came, "TRANSIENT", NO, DECLINED)) as guard, \
-                retry(guard, timeout=1) as relay:
-            if completed == NO:
+            with self.subTest(is_void=is_void), Guard(answer) as guard, retry(guard) as relay:
+                relay.begin()
+                wanted = giop.reply(5, giop.system_body(name, completed, 0), status=giop.SYSTEM_EXCEPTION)
+                self.asked(relay, request(5, b"k", "add"), wanted)
+
+    @base.each(lambda: [(name, (name, completed)) for name, completed in (
+        ("never sent", NO), ("declined", NO), ("no room", NO), ("lost and declined", MAYBE), ("never answered", MAYBE),
+        ("declined under a key of the client's", MAYBE))])
+    def test_its_time_is_over(self, given):
+        """TIMEOUT: NO where no guard got it, or each time one said that it has begun nothing; MAYBE where it was ever
+        sent beside that, and where its client sends the key elsewhere."""
+        name, completed = given
+
+        def answer(came, count):
+            if name == "never answered" or name == "lost and declined" and count == 1:
+                return b"" if name == "never answered" else None
+            return exception(came, "NO_RESOURCES" if name == "no room" else "TRANSIENT", NO, DECLINED)
+
+        with Guard(answer) as guard, retry(guard, timeout=1) as relay:
+            if name == "never sent":
                 guard.hush()
             relay.begin()
             wanted = giop.reply(5, giop.system_body("TIMEOUT", completed, 0), status=giop.SYSTEM_EXCEPTION)
-            self.asked(relay, request(5, b"k", "add"), wanted)
+            own = {"client": b"A", "number": 7} if name.endswith("client's") else {}
+            self.asked(relay, request(5, b"k", "add", **own), wanted)
+            self.assertEqual(len(guard.requests) > 1, name not in ("never sent", "never answered"))
 
     def test_one_way_calls_arrive(self):
         """They ask the guard for a reply, and their client gets none."""

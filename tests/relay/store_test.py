@@ -9,6 +9,7 @@ import os
 import re
 import shutil
 import subprocess
+import tomllib
 import unittest
 
 from scripts import relay
@@ -18,8 +19,15 @@ from tests.relay import relays
 RELAY = os.path.join(ROOT, "relay")
 # longer than a build from nothing takes on a busy machine
 SECONDS = 1800
+# the variables that name points
+POINTS = (b"LEMONRUDDER_KILL", b"LEMONRUDDER_STOP")
 HAS_POSTGRES = bool(glob.glob("/usr/lib/postgresql/*/bin/initdb")) and (
     os.geteuid() != 0 or shutil.which("runuser") is not None)
+
+
+def octets_of(name: str) -> bytes:
+    with open(name, "rb") as file:
+        return file.read()
 
 
 def cargo(*words: str, then: tuple[str, ...]) -> tuple[int, str]:
@@ -36,7 +44,7 @@ class Crate(unittest.TestCase):
 
     def passes(self, *words: str) -> None:
         """Tests of the crate pass."""
-        status, said = cargo("test", then=words)
+        status, said = cargo("test", *relay.TESTED, then=words)
         tests = [(name, ended) for name, ended in re.findall(r"^test (\S+) \.\.\. (\w+)", said, re.M)
                  if ended != "ignored"]
         for name, ended in tests:
@@ -57,9 +65,28 @@ class Crate(unittest.TestCase):
 
     @needs("cargo-clippy")
     def test_lints(self) -> None:
-        """Clippy has nothing to say."""
-        status, said = cargo("clippy", "--all-targets", then=("-D", "warnings"))
-        self.assertEqual(status, 0, said)
+        """Clippy has nothing to say, of what is installed and of what is tested."""
+        for words in ([], relay.TESTED):
+            status, said = cargo("clippy", "--all-targets", *words, then=("-D", "warnings"))
+            self.assertEqual(status, 0, said)
+
+    def test_points(self) -> None:
+        """What is installed or packed has no points at which the environment has it end: no feature is switched on by
+        itself or for it, and only a file of that feature names the variables. The program that is tested has them."""
+        with open(os.path.join(RELAY, "Cargo.toml"), "rb") as file:
+            features = tomllib.load(file)["features"]
+        self.assertEqual((features, relay.RELEASE), ({"points": []}, ["--release"]))
+        sources = {name: octets_of(name) for name in glob.glob(os.path.join(RELAY, "src", "**", "*.rs"), recursive=True)}
+        fatal = os.path.join(RELAY, "src", "points", "fatal.rs")
+        self.assertEqual([name for name, text in sources.items() if any(word in text for word in POINTS)], [fatal])
+        self.assertEqual([line for line in sources[os.path.join(RELAY, "src", "points", "mod.rs")].decode().splitlines()
+                          if not line.startswith("//")],
+                         ["", '#[cfg(feature = "points")]', "mod fatal;", "", '#[cfg(feature = "points")]',
+                          "pub use fatal::point;", "", '#[cfg(not(feature = "points"))]', "pub fn point(_: &str) {}"])
+        released = os.path.join(relay.TARGET, "release", relay.PROGRAM)
+        for path, has_points in ((relays.pointed(), True), (relays.program(), relays.program() == relays.pointed()),
+                                 *[(released, False)] * os.path.exists(released)):
+            self.assertEqual([word in octets_of(path) for word in POINTS], [has_points] * len(POINTS), path)
 
     @needs("rustfmt")
     def test_format(self) -> None:

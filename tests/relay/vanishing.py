@@ -17,8 +17,8 @@ from tests.relay.guard_test import KEY, Server
 from tests.relay.relays import Life, Relay
 
 GUARD = "10.9.0.2"
-# the system gives up what is unconfirmed for 15 seconds, and asks after 10 seconds without octets
-SECONDS = 40
+# a guard is asked after 3 seconds without octets, and has 3 for a sign
+SECONDS = 20
 
 
 def ip(*words: str) -> None:
