@@ -8,7 +8,7 @@ _giop() {
     play) words='--capacity --share --start --limit --partials --engine --parked --joined --asks --help' ;;
     show) words='--raw --help' files=1 ;;
     check) words='--raw --help' files=1 ;;
-    trace) words='--raw --resume --json --bodies --clock --color --keys --types --operation --object --client --call --slower --unanswered --faults --summary --help' files=1 ;;
+    trace) words='--raw --resume --cuts --json --bodies --clock --color --keys --types --operation --object --client --call --slower --unanswered --faults --summary --help' files=1 ;;
     ior) words='--names --help' ;;
     serve) words='--port --connections --capacity --share --start --limit --partials --timeout --log --help' ;;
     esac ;;
