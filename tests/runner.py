@@ -59,6 +59,12 @@ def needs_of(module: str) -> list[str]:
     return [programs.CRATES[name] for name in programs.CRATES if name in named]
 
 
+def made_for(crates: list[str]) -> list[str]:
+    """What scripts/unproved.py makes for these: the programs of tests at once."""
+    apart = (programs.CRATES["GIOP"], "library", "relay")
+    return list(dict.fromkeys(it if it in apart else "programs" for it in crates))
+
+
 def modules_of_tests() -> Iterator[str]:
     """The modules of this package that have tests."""
     for folder in ("tests", "tests/embed", "tests/relay"):

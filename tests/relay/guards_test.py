@@ -200,11 +200,17 @@ class Guards(unittest.TestCase):
 
     def disturb(self, dice: random.Random, guards: list[Relay], server: relays.Server,
                 clients: relays.Clients) -> collections.Counter:
-        """Does one thing after another, in turn and by chance, until all calls are made."""
-        done, deeds = collections.Counter(), ["kill", "stop", "database", "server"]
+        """Does each thing once as soon as some more calls are made, the one amid which others are made last; then by
+        chance, until all are made."""
+        done, deeds = collections.Counter(), ["kill", "database", "server", "stop"]
         while not clients.are_over():
-            time.sleep(dice.uniform(0.1, 0.4))
-            deed = deeds[done.total() % 4] if done.total() < 4 else dice.choice(deeds)
+            if done.total() < len(deeds):
+                least = (1 + done.total()) * CALLS // 20
+                until(lambda least=least: server.performed().total() >= least or clients.are_over(), "calls are made")
+                deed = deeds[done.total()]
+            else:
+                time.sleep(dice.uniform(0.1, 0.4))
+                deed = dice.choice(deeds)
             guard = dice.choice(guards)
             if deed in ("kill", "server"):
                 life = guard if deed == "kill" else server
