@@ -8,11 +8,10 @@ import shutil
 from collections.abc import Iterator
 
 from scripts.crates import ROOT, needed
+from scripts.modules import PARTS
 
 # the crate whose modules they are
 TOP = "together"
-# what an unproved build reads of a crate
-PARTS = ("src", "specs")
 # the root of programs: whichever is called where it runs by itself, each of them is in it
 MAIN = """
 fn count(rt: &HostRuntime) -> usize {{
