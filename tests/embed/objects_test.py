@@ -15,6 +15,7 @@ from tests import base
 from tests.embed.durable import ENDLESS, located
 from tests.embed import idl_rust_test
 from tests.embed.idl_test import EMBED, EXAMPLES, FOLDER, SECONDS, backend, compiled, lr, made, serving
+from tests.giop_peers import until
 from tests.programs import needs
 
 SANITIZED = ["-g", "-fsanitize=address,undefined", "-fno-sanitize-recover=all", "-pthread"]
@@ -66,6 +67,8 @@ async def taken_away(test: unittest.TestCase, host: str, port: int) -> None:
         test.assertEqual(located(port, b"one"), lr.LocateStatus.UNKNOWN_OBJECT)
         # .. also where there is another one of its key
         await other.call("desk", "make", results="l")
+        # (which is made behind the answer, by whichever thread)
+        until(lambda: located(port, b"one") == lr.LocateStatus.OBJECT_HERE, "it is there")
         test.assertEqual(await other.call("one", "now", results="l"), 7)
         last = await stack.enter_async_context(lr.Client(host, port, caller.client_id))
         test.assertEqual(await last.recall(1, "one", "slow", results="l", expiration=ENDLESS), 5)
