@@ -21,7 +21,7 @@ QUIET = 30
 # what a part takes that was never run, in seconds
 UNKNOWN = 20
 # how much of a processor has to be idle for one more part to begin, and how many run at most for each processor
-IDLE, EACH = 0.25, 2
+IDLE, EACH = 0.25, 4
 # a part that ran nothing since a tool is missing says so in a line that has this
 SKIPPED = ": this needs "
 

@@ -30,6 +30,9 @@ PACKAGES = {
 OF_REGISTRY = ["--config", 'source.crates-io.replace-with = "debian"',
                "--config", f"source.debian.directory = {json.dumps(REGISTRY)}"]
 
+# how cargo builds what is tested, once: with lines alone for a debugger, and nothing that is for the next build
+QUICK = {"CARGO_INCREMENTAL": "0", "CARGO_PROFILE_DEV_DEBUG": "line-tables-only"}
+
 
 def lacking():
     """The packages of Debian that are missing on this machine."""
@@ -39,7 +42,7 @@ def lacking():
 def cargo(lib, *words, then=(), target=TARGET, **options):
     """Runs a command of cargo on the relay, over the library in a folder, with words for what it runs behind `--`, and
     answers what `subprocess.run` does."""
-    env = {**os.environ, "LEMONRUDDER_LIB_DIR": lib, "CARGO_TARGET_DIR": target}
+    env = {**os.environ, **QUICK, "LEMONRUDDER_LIB_DIR": lib, "CARGO_TARGET_DIR": target}
     behind = ["--", *then] if then else []
     return subprocess.run(["cargo", *words, "--offline", *OF_REGISTRY, *behind], cwd=SOURCES, env=env,
                           stdin=subprocess.DEVNULL, check=False, **options)

@@ -13,6 +13,7 @@ import tempfile
 import unittest
 
 from scripts import library
+from scripts.relay import QUICK
 from tests import programs
 from tests.embedding import (
     BANKS, of_functions, slow_bank_says_goodbye, slow_deposits_act_once, slow_deposits_are_answered_in_any_order,
@@ -35,8 +36,8 @@ def folder_of(tests):
 
 def cargo(target, lib, *words, cwd=CRATE, **environment):
     """Runs cargo over the libraries of a folder, and answers its status and what it printed."""
-    found = dict(os.environ, LEMONRUDDER_LIB_DIR=lib, CARGO_TARGET_DIR=target, RUSTFLAGS="-D warnings",
-                 RUSTDOCFLAGS="-D warnings", **environment)
+    found = {**os.environ, **QUICK, "LEMONRUDDER_LIB_DIR": lib, "CARGO_TARGET_DIR": target, "RUSTFLAGS": "-D warnings",
+             "RUSTDOCFLAGS": "-D warnings", **environment}
     ran = subprocess.run(["cargo", *words], cwd=cwd, env=found, stdin=subprocess.DEVNULL, stdout=subprocess.PIPE,
                          stderr=subprocess.STDOUT, text=True, check=False)
     return ran.returncode, ran.stdout

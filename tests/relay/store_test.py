@@ -4,11 +4,14 @@ Each test of Rust is a part. Those over PostgreSQL start one; where it is missin
 """
 from __future__ import annotations
 
+import atexit
+import functools
 import glob
 import os
 import re
 import shutil
 import subprocess
+import tempfile
 import tomllib
 import unittest
 
@@ -30,11 +33,23 @@ def octets_of(name: str) -> bytes:
         return file.read()
 
 
+@functools.lru_cache(maxsize=None)
+def target() -> str:
+    """A folder for builds, which has what the program under test was built of: in that one's others would have to wait."""
+    relays.pointed()
+    made = os.path.join(relay.target_of(library()), "debug")
+    folder = tempfile.TemporaryDirectory()
+    atexit.register(folder.cleanup)
+    os.mkdir(os.path.join(folder.name, "debug"))
+    parts = [os.path.join(made, name) for name in ("build", "deps", ".fingerprint")]
+    subprocess.run(["cp", "-a", *parts, os.path.join(folder.name, "debug")], check=True)
+    return folder.name
+
+
 def cargo(*words: str, then: tuple[str, ...]) -> tuple[int, str]:
     """Runs cargo in the relay's folder, and answers its status and what it printed."""
-    relays.program()
-    ran = relay.cargo(os.path.join(library(), "lib"), *words, then=then, stdout=subprocess.PIPE, stderr=subprocess.STDOUT,
-                      text=True, timeout=SECONDS)
+    ran = relay.cargo(os.path.join(library(), "lib"), *words, then=then, target=target(), stdout=subprocess.PIPE,
+                      stderr=subprocess.STDOUT, text=True, timeout=SECONDS)
     return ran.returncode, ran.stdout
 
 
