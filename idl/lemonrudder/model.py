@@ -1,6 +1,6 @@
 """What the backends know of an IDL file: its declarations in order, checked for what is left out.
 
-A type is one of Basic, String, Sequence, Array, Reference, or a declaration (Enum, Struct, Union, Alias).
+A type is one of Basic, String, Sequence, Array, Reference, Any, or a declaration (Enum, Struct, Union, Alias).
 """
 import os
 import sys
@@ -16,7 +16,7 @@ BASICS = {
     idltype.tk_double: "double",
 }
 LEFT_OUT = {
-    idltype.tk_any: "any", idltype.tk_TypeCode: "TypeCode", idltype.tk_Principal: "Principal",
+    idltype.tk_TypeCode: "TypeCode", idltype.tk_Principal: "Principal",
     idltype.tk_longdouble: "long double", idltype.tk_wchar: "wchar", idltype.tk_wstring: "wstring",
     idltype.tk_fixed: "fixed", idltype.tk_value: "a valuetype", idltype.tk_value_box: "a boxed value",
     idltype.tk_native: "a native type", idltype.tk_abstract_interface: "an abstract interface",
@@ -77,6 +77,11 @@ class Array:
 @dataclass(frozen=True)
 class Reference:
     """A reference to an object: of any interface, as all are the same on the wire."""
+
+
+@dataclass(frozen=True)
+class Any:
+    """A TypeCode and a value of it, which a program passes on by their octets."""
 
 
 @dataclass(eq=False)
@@ -315,7 +320,7 @@ def can_spell(type: object, around: Tuple[object, ...] = ()) -> bool:
             can_spell(member, (*around, type)) for _, member in type.members)
     if isinstance(type, Enum):
         return len(type.names) <= NAMES
-    return not isinstance(type, Union)
+    return not isinstance(type, (Union, Any))
 
 
 def types_of(one: object) -> List[object]:
@@ -331,10 +336,16 @@ def types_of(one: object) -> List[object]:
     return [type for operation in getattr(one, "operations", ()) for type in types_of(operation)]
 
 
-def named_in(type: object) -> List[Declared]:
-    """The declarations that a type names; of an enum by another name also that of the enum."""
+def whole_of(type: object) -> object:
+    """The type of what sequences and arrays hold."""
     while isinstance(type, (Sequence, Array)):
         type = type.member
+    return type
+
+
+def named_in(type: object) -> List[Declared]:
+    """The declarations that a type names; of an enum by another name also that of the enum."""
+    type = whole_of(type)
     found = [type] if isinstance(type, Declared) else []
     return found + ([resolved(type)] if isinstance(resolved(type), Enum) else [])
 
@@ -364,6 +375,12 @@ def holds_itself(one: Declared) -> bool:
 def is_nested(operation: Operation) -> bool:
     """Whether values of an operation may hold others of their own type."""
     return any(map(holds_itself, all_named([named for type in types_of(operation) for named in named_in(type)])))
+
+
+def has_any(one: object) -> bool:
+    """Whether values of a declaration or an operation may hold anys."""
+    due = [one, *all_named([named for type in types_of(one) for named in named_in(type)])]
+    return any(isinstance(whole_of(type), Any) for each in due for type in types_of(each))
 
 
 def is_raw(operation: Operation) -> bool:
@@ -537,6 +554,8 @@ class Reading:
             return Sequence(self.type(one.seqType()), one.bound())
         if kind == idltype.tk_objref:
             return Reference()
+        if kind == idltype.tk_any:
+            return Any()
         return self.named(one)
 
     def named(self, one: object) -> Declared:

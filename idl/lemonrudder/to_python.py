@@ -62,6 +62,8 @@ def hint(type: object) -> str:
         return "_builtins.str"
     if isinstance(type, model.Reference):
         return "_typing.Optional[_idl.Ior]"
+    if isinstance(type, model.Any):
+        return "_idl.Any"
     inner = model.resolved(type.member)
     if inner in (model.Basic("octet"), model.Basic("char")):
         return "_builtins.bytes" if inner.name == "octet" else "_builtins.str"
@@ -78,6 +80,8 @@ def type_of(type: object) -> str:
         return f"_idl.string({type.bound or ''})"
     if isinstance(type, model.Reference):
         return "_idl.reference()"
+    if isinstance(type, model.Any):
+        return "_idl.any_"
     if isinstance(type, model.Sequence):
         return f"_idl.sequence({type_of(type.member)}{f', {type.bound}' if type.bound else ''})"
     return f"_idl.array({type_of(type.member)}, {type.size})"

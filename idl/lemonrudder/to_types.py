@@ -4,6 +4,14 @@ from typing import List
 from . import model
 
 
+def why_not(one: object) -> str:
+    """Why the table has no such declaration or operation; nothing where it has."""
+    if isinstance(one, model.Operation):
+        return "types that hold themselves" if model.is_nested(one) else "any" if model.has_any(one) else ""
+    is_nested = any(map(model.holds_itself, model.all_named([one])))
+    return "types that hold themselves" if is_nested else "any" if model.has_any(one) else ""
+
+
 def words(type: object) -> str:
     """A type, what it is made of before it."""
     type = model.resolved(type)
@@ -46,7 +54,7 @@ def lines_of(one: model.Declared) -> List[str]:
         return []
     found = [f"interface {one.id}", *(f"base {base.id}" for base in one.bases)]
     for operation in one.operations:
-        if operation.is_octets or model.is_nested(operation):
+        if operation.is_octets or why_not(operation):
             continue
         found.append(f"operation {operation.name}")
         found += ["oneway"] if operation.is_oneway else []
@@ -57,18 +65,17 @@ def lines_of(one: model.Declared) -> List[str]:
 
 
 def warn_of(one: model.Declared) -> None:
-    """Says which operations are left out: the table has no types that hold themselves."""
+    """Says which operations are left out: the table has no types that hold themselves, and no any."""
     for operation in getattr(one, "operations", ()):
-        if not operation.is_octets and model.is_nested(operation):
-            model.warn(f"{one.file}:{operation.line}: Warning: {one.idl}::{operation.name}: types that hold themselves:"
+        if not operation.is_octets and why_not(operation):
+            model.warn(f"{one.file}:{operation.line}: Warning: {one.idl}::{operation.name}: {why_not(operation)}:"
                        " the table leaves it out")
 
 
 def files_of(unit: model.Unit) -> dict:
     """FILE.types, which has what is included too."""
     lines = ["giop-types 1", f"# of {unit.base}.idl"]
-    left_out = [one for one in unit.whole if any(map(model.holds_itself, model.all_named([one])))
-                and not isinstance(one, model.Interface)]
+    left_out = [one for one in unit.whole if why_not(one) and not isinstance(one, model.Interface)]
     for one in unit.whole:
         warn_of(one)
         lines += lines_of(one) if one not in left_out else []

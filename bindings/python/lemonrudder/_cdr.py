@@ -50,6 +50,7 @@ class Reader:
         self.octets = octets_of(octets)
         self._place = _place(order, at)
         self._left, self._most = max_elements, max_elements
+        self._steps = 65536 + 16 * len(self.octets)
 
     @property
     def next(self) -> int:
@@ -87,6 +88,14 @@ class Reader:
             if count > self._left:
                 raise LemonrudderError(Error.VALUE, f"more than {self._most} elements (max_elements)")
             self._left -= count
+
+    def claim(self, count: int) -> None:
+        """So many elements of anys are to be read, which may have no octets: at most 65536, and 16 for each octet, where
+        max_elements says nothing. Raises LemonrudderError (VALUE)."""
+        self.count(count)
+        self._steps -= count
+        if self._steps < 0:
+            raise LemonrudderError(Error.VALUE, "an any of too many elements")
 
     def _run(self, size: int, count: int) -> Tuple[int, int]:
         """Takes numbers of so many octets each: the index of the first, and how many of them are there."""

@@ -16,11 +16,13 @@ import operator
 import re
 import struct
 import threading
-from typing import (TYPE_CHECKING, Any, Callable, ClassVar, Dict, Iterable, Iterator, List, Mapping, Optional, Sequence,
-                    Tuple, Type, TypeVar)
+from typing import TYPE_CHECKING
+from typing import Any as Anything
+from typing import Callable, ClassVar, Dict, Iterable, Iterator, List, Mapping, Optional, Sequence, Tuple, Type, TypeVar
 from typing import Union as Either
 
-from . import _outcomes
+from . import _any, _outcomes
+from ._any import Any as Any
 from ._catalogue import Catalogue, Signature
 from ._cdr import BIG, Reader, Writer
 from ._client import Client
@@ -46,7 +48,7 @@ def made_for(*version: int) -> None:
         raise ImportError(f"this is lemonrudder {found}, and none for {wanted}: make the module anew by omniidl")
 
 
-def _within(name: str, function: Callable[[Any], Any], value: Any) -> Any:
+def _within(name: str, function: Callable[[Anything], Anything], value: Anything) -> Anything:
     """What a function makes of a part of a value; an error says which part that is."""
     try:
         return function(value)
@@ -74,31 +76,31 @@ class IdlType:
     format: Optional[str] = None
     is_basic = False
 
-    def are_plain(self, values: Any) -> bool:
+    def are_plain(self, values: Anything) -> bool:
         """Whether these are values of a basic type, and each as one of the format. False: see to each."""
         return False
 
-    def plain(self, value: Any) -> Any:
+    def plain(self, value: Anything) -> Anything:
         """A value as one of the format. Raises ValueError, TypeError: it is none of this type."""
         raise NotImplementedError
 
-    def typed(self, plain: Any) -> Any:
+    def typed(self, plain: Anything) -> Anything:
         """A value of the format as one of this type. Raises ValueError: a bound is passed."""
         return plain
 
-    def read(self, reader: Reader) -> Any:
+    def read(self, reader: Reader) -> Anything:
         """Reads a value. Raises ValueError, LemonrudderError (SHORT, VALUE, REFERENCE)."""
         if self.format is None:
             raise NotImplementedError
         return self.typed(reader.read(self.format)[0])
 
-    def write(self, writer: Writer, value: Any) -> None:
+    def write(self, writer: Writer, value: Anything) -> None:
         """Writes a value. Raises as plain."""
         if self.format is None:
             raise NotImplementedError
         writer.write(self.format, self.plain(value))
 
-    def values(self) -> Iterator[Any]:
+    def values(self) -> Iterator[Anything]:
         """The values of a type that discriminates a union, from 0 up."""
         raise NotImplementedError
 
@@ -110,7 +112,7 @@ class _Number(IdlType):
         self.name, self.format = name, format
         self.least, self.most = least, least + (1 << bits) - 1
 
-    def plain(self, value: Any) -> int:
+    def plain(self, value: Anything) -> int:
         if isinstance(value, (bool, enum.Enum)):
             raise TypeError(f"{value!r} is no {self.name}")
         number = operator.index(value)
@@ -118,42 +120,42 @@ class _Number(IdlType):
             raise ValueError(f"{number} is no {self.name}")
         return number
 
-    def are_plain(self, values: Any) -> bool:
+    def are_plain(self, values: Anything) -> bool:
         return set(map(type, values)) == {int} and self.least <= min(values) and max(values) <= self.most
 
-    def values(self) -> Iterator[Any]:
+    def values(self) -> Iterator[Anything]:
         return iter(range(self.most + 1))
 
 
 class _Boolean(IdlType):
     format, is_basic = "?", True
 
-    def are_plain(self, values: Any) -> bool:
+    def are_plain(self, values: Anything) -> bool:
         return set(map(type, values)) == {bool}
 
-    def plain(self, value: Any) -> bool:
+    def plain(self, value: Anything) -> bool:
         if not isinstance(value, bool):
             raise TypeError(f"{value!r} is no boolean")
         return value
 
-    def values(self) -> Iterator[Any]:
+    def values(self) -> Iterator[Anything]:
         return iter((False, True))
 
 
 class _Char(IdlType):
     format, is_basic = "c", True
 
-    def are_plain(self, values: Any) -> bool:
+    def are_plain(self, values: Anything) -> bool:
         return isinstance(values, str) and max(values, default="") <= "\xff"
 
-    def plain(self, value: Any) -> str:
+    def plain(self, value: Anything) -> str:
         if not isinstance(value, str):
             raise TypeError(f"{value!r} is no char")
         if len(value) != 1 or ord(value) > 255:
             raise ValueError(f"{value!r} is no char: one character of ISO 8859-1")
         return value
 
-    def values(self) -> Iterator[Any]:
+    def values(self) -> Iterator[Anything]:
         return map(chr, range(256))
 
 
@@ -163,11 +165,11 @@ class _Real(IdlType):
     def __init__(self, name: str, format: str) -> None:
         self.name, self.format, self._code = name, format, ">" + format
 
-    def are_plain(self, values: Any) -> bool:
+    def are_plain(self, values: Anything) -> bool:
         # (a float of Python may be none of 32 bits)
         return self.format == "d" and set(map(type, values)) == {float}
 
-    def plain(self, value: Any) -> float:
+    def plain(self, value: Anything) -> float:
         if isinstance(value, bool) or not isinstance(value, (int, float)):
             raise TypeError(f"{value!r} is no {self.name}")
         try:
@@ -193,7 +195,7 @@ class string(IdlType):
     def __init__(self, bound: int = 0) -> None:
         self.bound = bound
 
-    def plain(self, value: Any) -> Either[str, bytes]:
+    def plain(self, value: Anything) -> Either[str, bytes]:
         if not isinstance(value, (str, bytes)):
             raise TypeError(f"{value!r} is no string")
         try:
@@ -205,11 +207,11 @@ class string(IdlType):
         self.typed(octets)
         return octets
 
-    def typed(self, plain: Any) -> Any:
+    def typed(self, plain: Anything) -> Anything:
         return _bounded("string", plain, self.bound)
 
 
-def _bounded(name: str, value: Any, bound: int) -> Any:
+def _bounded(name: str, value: Anything, bound: int) -> Anything:
     """A value that is no longer than a bound, if there is one."""
     if bound and len(value) > bound:
         raise ValueError(f"a {name} of {len(value)}, and the bound is {bound}")
@@ -225,25 +227,25 @@ class sequence(IdlType):
         if member.format is not None:
             self.format = "o" if member is octet else f"[{member.format}]"
 
-    def _listed(self, value: Any) -> Any:
+    def _listed(self, value: Anything) -> Anything:
         _holds(self.member, value, "sequence")
         return _bounded("sequence", value, self.bound)
 
-    def plain(self, value: Any) -> Any:
+    def plain(self, value: Anything) -> Anything:
         self._listed(value)
         return bytes(value) if self.member is octet else _plains(self.member, value)
 
-    def typed(self, plain: Any) -> Any:
+    def typed(self, plain: Anything) -> Anything:
         _bounded("sequence", plain, self.bound)
         return plain if self.member is octet else _joined(self.member, plain)
 
-    def read(self, reader: Reader) -> Any:
+    def read(self, reader: Reader) -> Anything:
         if self.format is not None:
             return super().read(reader)
         count = _bounded_count(reader.read("L")[0], self.bound)
         return _deeper(lambda: _read_each(self.member, reader, count))
 
-    def write(self, writer: Writer, value: Any) -> None:
+    def write(self, writer: Writer, value: Anything) -> None:
         if self.format is not None:
             super().write(writer, value)
             return
@@ -259,31 +261,31 @@ class array(IdlType):
         if member.format is not None and size <= 255:
             self.format = f"({member.format * size})"
 
-    def _listed(self, value: Any) -> Any:
+    def _listed(self, value: Anything) -> Anything:
         _holds(self.member, value, "array")
         if len(value) != self.size:
             raise ValueError(f"an array of {self.size}, not {len(value)}")
         return value
 
-    def plain(self, value: Any) -> Any:
+    def plain(self, value: Anything) -> Anything:
         return tuple(_plains(self.member, self._listed(value)))
 
-    def typed(self, plain: Any) -> Any:
+    def typed(self, plain: Anything) -> Anything:
         return _joined(self.member, plain)
 
-    def read(self, reader: Reader) -> Any:
+    def read(self, reader: Reader) -> Anything:
         if self.format is not None:
             return super().read(reader)
         return _read_each(self.member, reader, self.size)
 
-    def write(self, writer: Writer, value: Any) -> None:
+    def write(self, writer: Writer, value: Anything) -> None:
         if self.format is not None:
             super().write(writer, value)
             return
         _write_each(self.member, writer, self._listed(value))
 
 
-def _deeper(function: Callable[..., Any], *values: Any) -> Any:
+def _deeper(function: Callable[..., Anything], *values: Anything) -> Anything:
     """What a function answers of a sequence in others. Raises ValueError: it stands too deep."""
     depth: int = getattr(_NOW, "depth", 0)
     if depth == DEPTH:
@@ -295,27 +297,27 @@ def _deeper(function: Callable[..., Any], *values: Any) -> Any:
         _NOW.depth = depth
 
 
-def _holds(member: IdlType, value: Any, name: str) -> None:
+def _holds(member: IdlType, value: Anything, name: str) -> None:
     """Whether a value can be a sequence or an array of a type. Raises TypeError."""
-    wanted: Any = (bytes, bytearray, memoryview) if member is octet else str if member is char else (list, tuple)
+    wanted: Anything = (bytes, bytearray, memoryview) if member is octet else str if member is char else (list, tuple)
     if not isinstance(value, wanted):
         words = "bytes" if member is octet else "a str" if member is char else "a list"
         raise TypeError(f"{value!r} is no {name}: it is to be {words}")
 
 
-def _plains(member: IdlType, values: Any) -> Any:
+def _plains(member: IdlType, values: Anything) -> Anything:
     if member.are_plain(values):
         return values
     return [_within(f"[{index}]", member.plain, value) for index, value in enumerate(values)]
 
 
-def _joined(member: IdlType, plains: Any) -> Any:
+def _joined(member: IdlType, plains: Anything) -> Anything:
     if member.is_basic:
         return _made(member, plains if isinstance(plains, list) else list(plains))
     return _made(member, [member.typed(plain) for plain in plains])
 
 
-def _made(member: IdlType, values: List[Any]) -> Any:
+def _made(member: IdlType, values: List[Anything]) -> Anything:
     """Members as a sequence or an array has them."""
     return bytes(values) if member is octet else "".join(values) if member is char else values
 
@@ -326,7 +328,7 @@ def _bounded_count(count: int, bound: int) -> int:
     return count
 
 
-def _read_each(member: IdlType, reader: Reader, count: int) -> Any:
+def _read_each(member: IdlType, reader: Reader, count: int) -> Anything:
     """So many members."""
     if member.format is not None:
         return _joined(member, reader.read_each(member.format, count))
@@ -334,7 +336,7 @@ def _read_each(member: IdlType, reader: Reader, count: int) -> Any:
     return _made(member, [member.read(reader) for _ in range(count)])
 
 
-def _write_each(member: IdlType, writer: Writer, values: Any) -> None:
+def _write_each(member: IdlType, writer: Writer, values: Anything) -> None:
     if member.format is not None:
         writer.write_each(member.format, _plains(member, values))
         return
@@ -347,10 +349,10 @@ class recursive(IdlType):
 
     of: IdlType
 
-    def read(self, reader: Reader) -> Any:
+    def read(self, reader: Reader) -> Anything:
         return self.of.read(reader)
 
-    def write(self, writer: Writer, value: Any) -> None:
+    def write(self, writer: Writer, value: Anything) -> None:
         self.of.write(writer, value)
 
 
@@ -359,14 +361,29 @@ class reference(IdlType):
 
     format = REFERENCE
 
-    def plain(self, value: Any) -> Any:
+    def plain(self, value: Anything) -> Anything:
         value = value._reference if isinstance(value, Stub) else value
         if value is not None and not isinstance(value, Ior):
             raise TypeError(f"{value!r} is no reference: an Ior, or None")
         return ("", []) if value is None else value.value
 
-    def typed(self, plain: Any) -> Optional[Ior]:
+    def typed(self, plain: Anything) -> Optional[Ior]:
         return Ior.of_value(plain) if plain[1] else None
+
+
+class _OfAny(IdlType):
+    """Anys, which are passed on by their octets."""
+
+    def read(self, reader: Reader) -> Any:
+        return _any.read(reader)
+
+    def write(self, writer: Writer, value: Anything) -> None:
+        if not isinstance(value, Any):
+            raise TypeError(f"{value!r} is no any: an idl.Any")
+        _any.write(writer, value)
+
+
+any_ = _OfAny()
 
 
 class Enum(enum.IntEnum):
@@ -375,25 +392,25 @@ class Enum(enum.IntEnum):
     if TYPE_CHECKING:
         # (an enumerator may be named like what each int has, and hides that)
         @property
-        def real(self) -> Any: ...
+        def real(self) -> Anything: ...
         @property
-        def imag(self) -> Any: ...
+        def imag(self) -> Anything: ...
         @property
-        def numerator(self) -> Any: ...
+        def numerator(self) -> Anything: ...
         @property
-        def denominator(self) -> Any: ...
+        def denominator(self) -> Anything: ...
         @property
-        def conjugate(self) -> Any: ...
+        def conjugate(self) -> Anything: ...
         @property
-        def bit_length(self) -> Any: ...
+        def bit_length(self) -> Anything: ...
         @property
-        def bit_count(self) -> Any: ...
+        def bit_count(self) -> Anything: ...
         @property
-        def as_integer_ratio(self) -> Any: ...
+        def as_integer_ratio(self) -> Anything: ...
         @property
-        def to_bytes(self) -> Any: ...
+        def to_bytes(self) -> Anything: ...
         @property
-        def from_bytes(self) -> Any: ...
+        def from_bytes(self) -> Anything: ...
 
     @property
     def _v(self) -> int:
@@ -416,7 +433,7 @@ class enumeration(IdlType):
         if len(self.items) <= 255:
             self.format = f"e{len(self.items)}"
 
-    def plain(self, value: Any) -> int:
+    def plain(self, value: Anything) -> int:
         if not isinstance(value, self.made):
             raise TypeError(f"{value!r} is no {_name(self.made)}")
         return int(value)
@@ -430,14 +447,14 @@ class enumeration(IdlType):
             raise ValueError(f"{number} is no {_name(self.made)}")
         return self.items[number]
 
-    def write(self, writer: Writer, value: Any) -> None:
+    def write(self, writer: Writer, value: Anything) -> None:
         writer.write("L", self.plain(value))
 
-    def values(self) -> Iterator[Any]:
+    def values(self) -> Iterator[Anything]:
         return iter(self.items)
 
 
-def _spelled(value: Any, names: Iterable[str]) -> str:
+def _spelled(value: Anything, names: Iterable[str]) -> str:
     """A value by its members."""
     return f"{_name(type(value))}({', '.join(f'{name}={getattr(value, name)!r}' for name in names)})"
 
@@ -453,7 +470,7 @@ class Struct:
     def __repr__(self) -> str:
         return _spelled(self, (one.name for one in dataclasses.fields(self)))
 
-    def __iter__(self) -> Iterator[Any]:
+    def __iter__(self) -> Iterator[Anything]:
         return (getattr(self, one.name) for one in dataclasses.fields(self))
 
 
@@ -467,23 +484,23 @@ class structure(IdlType):
         if len(members) <= 255 and all(one is not None for one in formats):
             self.format = f"({''.join(map(str, formats))})"
 
-    def _of(self, value: Any) -> Any:
+    def _of(self, value: Anything) -> Anything:
         if not isinstance(value, self.made):
             raise TypeError(f"{value!r} is no {_name(self.made)}")
         return value
 
-    def plain(self, value: Any) -> Tuple[Any, ...]:
+    def plain(self, value: Anything) -> Tuple[Anything, ...]:
         self._of(value)
         return tuple(_within(name, type.plain, getattr(value, name)) for name, type in self.members)
 
-    def typed(self, plain: Any) -> Any:
+    def typed(self, plain: Anything) -> Anything:
         return self.made(*(type.typed(one) for (_, type), one in zip(self.members, plain)))
 
-    def read(self, reader: Reader) -> Any:
+    def read(self, reader: Reader) -> Anything:
         reader.count(self._structs)
         return self.made(*(type.read(reader) for _, type in self.members))
 
-    def write(self, writer: Writer, value: Any) -> None:
+    def write(self, writer: Writer, value: Anything) -> None:
         self._of(value)
         for name, type in self.members:
             _within(name, lambda one: type.write(writer, one), getattr(value, name))
@@ -498,10 +515,10 @@ class Union:
     """
 
     _type: ClassVar[union]
-    _d: Any
-    _v: Any
+    _d: Anything
+    _v: Anything
 
-    def __init__(self, *both: Any, **by_name: Any) -> None:
+    def __init__(self, *both: Anything, **by_name: Anything) -> None:
         if len(both) == 2 and not by_name:
             self._d, self._v = both
         elif len(both) < 2 and len(by_name) == 1:
@@ -513,14 +530,14 @@ class Union:
         else:
             raise TypeError("a discriminator and a value, or a member by its name")
 
-    def __getattr__(self, name: str) -> Any:
+    def __getattr__(self, name: str) -> Anything:
         if name not in self._type.first:
             raise AttributeError(name)
         if self._type.name(self._d) != name:
             raise AttributeError(f"{name} is not the member of {self._d!r}")
         return self._v
 
-    def __setattr__(self, name: str, value: Any) -> None:
+    def __setattr__(self, name: str, value: Anything) -> None:
         if name in self._type.first:
             object.__setattr__(self, "_d", self._type.first[name])
             object.__setattr__(self, "_v", value)
@@ -547,12 +564,12 @@ class union(IdlType):
     """The type of a Union: its class, the type of its discriminator, and its cases: labels, a name and a type. No label
     is the default."""
 
-    def __init__(self, made: Type[Union], switch: IdlType, *cases: Tuple[Tuple[Any, ...], str, IdlType]) -> None:
+    def __init__(self, made: Type[Union], switch: IdlType, *cases: Tuple[Tuple[Anything, ...], str, IdlType]) -> None:
         self.made, self.switch = made, switch
-        self.cases: Dict[Any, Tuple[str, IdlType]] = {}
+        self.cases: Dict[Anything, Tuple[str, IdlType]] = {}
         self.default: Optional[Tuple[str, IdlType]] = None
         # for each name the discriminator that it is set by
-        self.first: Dict[str, Any] = {}
+        self.first: Dict[str, Anything] = {}
         for labels, name, type in cases:
             for label in labels:
                 self.cases[label] = name, type
@@ -565,20 +582,20 @@ class union(IdlType):
         self.cases.pop(None, None)
         made._type = self
 
-    def member(self, label: Any) -> Optional[Tuple[str, IdlType]]:
+    def member(self, label: Anything) -> Optional[Tuple[str, IdlType]]:
         return self.cases.get(label, self.default)
 
-    def name(self, label: Any) -> Optional[str]:
+    def name(self, label: Anything) -> Optional[str]:
         found = self.member(label)
         return None if found is None else found[0]
 
-    def read(self, reader: Reader) -> Any:
+    def read(self, reader: Reader) -> Anything:
         label = self.switch.read(reader)
         found = self.member(label)
         reader.count(found is not None and isinstance(found[1], (structure, union)))
         return self.made(label, None if found is None else found[1].read(reader))
 
-    def write(self, writer: Writer, value: Any) -> None:
+    def write(self, writer: Writer, value: Anything) -> None:
         if not isinstance(value, self.made):
             raise TypeError(f"{value!r} is no {_name(self.made)}")
         _within("_d", lambda one: self.switch.write(writer, one), value._d)
@@ -629,7 +646,7 @@ class Operation:
             formats = {one._id: _format(one._type.members) for one in raises}
             self.signature = Signature(_format(arguments), _format(results), formats)
 
-    def _body(self, types: _Named, values: Sequence[Any], first: str = "") -> bytes:
+    def _body(self, types: _Named, values: Sequence[Anything], first: str = "") -> bytes:
         """Values as the body of a message, behind the id of an exception, if it is one."""
         writer = Writer(BIG)
         if first:
@@ -638,10 +655,10 @@ class Operation:
             _within(name or "the result", lambda one: type.write(writer, one), value)
         return writer.octets
 
-    def _plains(self, types: _Named, values: Sequence[Any]) -> Tuple[Any, ...]:
+    def _plains(self, types: _Named, values: Sequence[Anything]) -> Tuple[Anything, ...]:
         return tuple(_within(name or "the result", type.plain, one) for (name, type), one in zip(types, values))
 
-    def values(self, plain: Sequence[Any]) -> List[Any]:
+    def values(self, plain: Sequence[Anything]) -> List[Anything]:
         """The arguments of a request: its body, or the values of its format. Raises Refuse (MARSHAL)."""
         try:
             if self.is_raw:
@@ -652,7 +669,7 @@ class Operation:
             LOG.info("%s is refused: %s", self.name, error)
             raise Refuse("MARSHAL") from None
 
-    def reply(self, returned: Any) -> Any:
+    def reply(self, returned: Anything) -> Anything:
         """What a method returned as a function of Server.add returns it. Raises TypeError, ValueError."""
         if isinstance(returned, (Outcome, RawReply)):
             return returned
@@ -665,7 +682,7 @@ class Operation:
         plain = self._plains(self.results, values)
         return None if count == 0 else plain[0] if count == 1 else plain
 
-    def raised(self, raised: UserException) -> Any:
+    def raised(self, raised: UserException) -> Anything:
         """The reply of a raw operation by an exception. Of one with types it is raised, as one that is not declared is.
         Raises TypeError, ValueError: its members are not of their types."""
         members = raised._type.members
@@ -674,11 +691,11 @@ class Operation:
             return RawReply(self._body(members, values, raised._id), BIG, ReplyStatus.USER_EXCEPTION)
         raise _outcomes.UserException(raised._id, self._plains(members, values)) from raised
 
-    def returned(self, body: Body) -> Any:
+    def returned(self, body: Body) -> Anything:
         """The results in the body of a reply to a raw operation. Raises LemonrudderError (SHORT, VALUE)."""
         return self._whole(body.reader(), self.results, _result)
 
-    def _whole(self, reader: Reader, types: _Named, made: Callable[..., Any]) -> Any:
+    def _whole(self, reader: Reader, types: _Named, made: Callable[..., Anything]) -> Anything:
         try:
             values = [type.read(reader) for _, type in types]
         except LemonrudderError:
@@ -699,7 +716,7 @@ class Operation:
             return self._whole(raised.body.reader(), made._type.members, made)  # type: ignore[no-any-return]
         return self._typed(made._type.members, raised.values, made)  # type: ignore[no-any-return]
 
-    def _typed(self, types: _Named, plains: Sequence[Any], made: Callable[..., Any]) -> Any:
+    def _typed(self, types: _Named, plains: Sequence[Anything], made: Callable[..., Anything]) -> Anything:
         """Values of formats as those of types. Raises LemonrudderError (VALUE)."""
         try:
             return made(*(type.typed(one) for (_, type), one in zip(types, plains)))
@@ -716,17 +733,17 @@ class OfOctets(Operation):
         super().__init__(name, method, is_oneway=is_oneway)
         self.is_raw = True
 
-    def values(self, plain: Sequence[Any]) -> List[Any]:
+    def values(self, plain: Sequence[Anything]) -> List[Anything]:
         return [plain[0]]
 
-    def reply(self, returned: Any) -> Any:
+    def reply(self, returned: Anything) -> Anything:
         if returned is None and self.is_oneway:
             return RawReply(b"")
         if not isinstance(returned, (Outcome, RawReply)):
             raise TypeError(f"{returned!r} is no RawReply")
         return returned
 
-    def returned(self, body: Body) -> Any:
+    def returned(self, body: Body) -> Anything:
         return body
 
 
@@ -734,7 +751,7 @@ def _format(types: _Named) -> str:
     return "".join(str(type.format) for _, type in types)
 
 
-def _result(*values: Any) -> Any:
+def _result(*values: Anything) -> Anything:
     return None if not values else values[0] if len(values) == 1 else values
 
 
@@ -765,24 +782,24 @@ class Servant(abc.ABC):
     _interface: ClassVar[Interface]
 
 
-def _performer(operation: Operation, method: Callable[..., Any]) -> Callable[..., Any]:
+def _performer(operation: Operation, method: Callable[..., Anything]) -> Callable[..., Anything]:
     """The function of Server.add for a method of a servant."""
 
-    def replied(make: Callable[[Any], Any], given: Any) -> Any:
+    def replied(make: Callable[[Anything], Anything], given: Anything) -> Anything:
         try:
             return make(given)
         except (TypeError, ValueError) as error:
             LOG.error("no outcome of %r: %s", operation.name, error)
             raise SystemException("INTERNAL", 0, Completed.MAYBE) from None
 
-    async def awaited(returned: Any) -> Any:
+    async def awaited(returned: Anything) -> Anything:
         try:
             value = await returned
         except UserException as raised:
             return replied(operation.raised, raised)
         return replied(operation.reply, value)
 
-    def perform(*plain: Any) -> Any:
+    def perform(*plain: Anything) -> Anything:
         values = operation.values(plain)
         try:
             returned = method(*values)
@@ -793,9 +810,9 @@ def _performer(operation: Operation, method: Callable[..., Any]) -> Callable[...
     return perform
 
 
-def _offered(servant: Servant) -> Tuple[Tuple[str, ...], Dict[str, Any], Dict[str, Mapping[str, str]]]:
+def _offered(servant: Servant) -> Tuple[Tuple[str, ...], Dict[str, Anything], Dict[str, Mapping[str, str]]]:
     """What Server.add takes of a servant: repository ids, operations, and what they raise."""
-    operations: Dict[str, Any] = {}
+    operations: Dict[str, Anything] = {}
     raises: Dict[str, Mapping[str, str]] = {}
     for name, operation in servant._interface.operations.items():
         function = _performer(operation, getattr(servant, operation.method))
@@ -840,7 +857,7 @@ class Stub:
 
     @classmethod
     def _of(cls: Type[S], reference: Either[Ior, str], client_id: Optional[Text] = None, *, timeout: float = 60.0,
-            **options: Any) -> S:
+            **options: Anything) -> S:
         """A stub for the object that a reference names, with a client of its own. Errors as of Client.of."""
         ior = reference if isinstance(reference, Ior) else Ior.parse(reference)
         stub = cls(Client.of(ior, client_id, **options), timeout=timeout)
@@ -876,10 +893,10 @@ class Stub:
     async def __aenter__(self: S) -> S:
         return self
 
-    async def __aexit__(self, *error: Any) -> None:
+    async def __aexit__(self, *error: Anything) -> None:
         await self._close()
 
-    async def _call_octets(self, operation: Operation, body: Either[Body, bytes]) -> Any:
+    async def _call_octets(self, operation: Operation, body: Either[Body, bytes]) -> Anything:
         """Calls an operation by the octets of its arguments, and returns those of its results."""
         given = body if isinstance(body, Body) else Body(body)
         if given.at % 8:
@@ -889,7 +906,7 @@ class Stub:
                                            timeout=self._timeout, expiration=self._expiration)
         return None if operation.is_oneway else came
 
-    async def _call(self, operation: Operation, *values: Any) -> Any:
+    async def _call(self, operation: Operation, *values: Anything) -> Anything:
         """Calls an operation by its arguments, and returns its results as a method does."""
         client, timeout, expiration = self._client, self._timeout, self._expiration
         prepared = _within(operation.name, lambda values: operation._body(operation.arguments, values)
