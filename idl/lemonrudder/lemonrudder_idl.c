@@ -48,6 +48,10 @@ const lr_idl_type lr_idl_reference__type = {LR_IDL_STRUCT, 2, sizeof(lr_idl_refe
 static const lr_idl_member body_members[] = {{&octets_type, offsetof(lr_idl_body, octets), 0, false}};
 const lr_idl_type lr_idl_body__type = {LR_IDL_BODY, 1, sizeof(lr_idl_body), NULL, body_members};
 
+static const lr_idl_member any_members[] = {{&octets_type, offsetof(lr_idl_any, type), 0, false},
+                                            {&octets_type, offsetof(lr_idl_any, value), 0, false}};
+const lr_idl_type lr_idl_any__type = {LR_IDL_ANY, 2, sizeof(lr_idl_any), NULL, any_members};
+
 /* How deep sequences stand in sequences. */
 enum { DEPTH = 64 };
 
@@ -115,7 +119,7 @@ static void free_struct(const lr_idl_type *type, void *value) {
 static void free_value(const lr_idl_type *type, void *value) {
   if (type->kind == LR_IDL_STRING) free(text_at(value));
   if (type->kind == LR_IDL_ARRAY) free_members(type->inner, type->count, value);
-  if (type->kind == LR_IDL_STRUCT || type->kind == LR_IDL_BODY) free_struct(type, value);
+  if (type->kind == LR_IDL_STRUCT || type->kind >= LR_IDL_BODY) free_struct(type, value);
   if (type->kind == LR_IDL_SEQUENCE) {
     struct sequence some = sequence_at(value);
     if (some.buffer != NULL) free_members(type->inner, some.length, some.buffer);
@@ -180,8 +184,15 @@ static int64_t copy_body(const lr_idl_body *from, lr_idl_body *to) {
   return copy_sequence(&lr_idl_octet__type, &from->octets, &to->octets);
 }
 
+static int64_t copy_any(const lr_idl_any *from, lr_idl_any *to) {
+  to->order = from->order;
+  to->at = from->at;
+  return copy_struct(&lr_idl_any__type, from, to);
+}
+
 static int64_t copy_value(const lr_idl_type *type, const void *from, void *to) {
   if (type->kind == LR_IDL_BODY) return copy_body(from, to);
+  if (type->kind == LR_IDL_ANY) return copy_any(from, to);
   if (type->kind == LR_IDL_STRING) return copy_text(from, to);
   if (type->kind == LR_IDL_SEQUENCE) return copy_sequence(type->inner, from, to);
   if (type->kind == LR_IDL_ARRAY) return copy_members(type->inner, type->count, from, to);
@@ -321,6 +332,8 @@ static int64_t get_union(const struct reader *in, const lr_idl_type *type, void 
   return member == NULL ? LR_OK : get_value(in, member->type, part_of(value, member->offset));
 }
 
+static int64_t get_any(const struct reader *in, lr_idl_any *any);
+
 /* All octets that are left. */
 static int64_t get_body(const struct reader *in, lr_idl_body *body) {
   const size_t next = (size_t)in->place->next, left = in->size - next;
@@ -355,6 +368,7 @@ static int64_t get_value(const struct reader *in, const lr_idl_type *type, void 
     case LR_IDL_ARRAY: return get_array(in, type, value);
     case LR_IDL_STRUCT: return get_struct(in, type, value);
     case LR_IDL_BODY: return get_body(in, value);
+    case LR_IDL_ANY: return get_any(in, value);
     default: return get_union(in, type, value);
   }
 }
@@ -432,6 +446,8 @@ static int64_t put_union(const struct writer *out, const lr_idl_type *type, cons
   return member == NULL ? LR_OK : put_value(out, member->type, part_of(value, member->offset));
 }
 
+static int64_t put_any(const struct writer *out, const lr_idl_any *any);
+
 /* All octets of a message, in their order. */
 static int64_t put_body(const struct writer *out, const lr_idl_body *body) {
   if (out->place->next != 0 || body->at % 8 != 0 || body->order > LR_ORDER_LITTLE) return LR_E_RANGE;
@@ -463,8 +479,529 @@ static int64_t put_value(const struct writer *out, const lr_idl_type *type, cons
     case LR_IDL_ARRAY: return put_members(out, type->inner, type->count, value);
     case LR_IDL_STRUCT: return put_struct(out, type, value);
     case LR_IDL_BODY: return put_body(out, value);
+    case LR_IDL_ANY: return put_any(out, value);
     default: return put_union(out, type, value);
   }
+}
+
+/* ---- TypeCodes ---- */
+
+/* TCKind (CORBA 3.3 Part 2, 9.3.5.1). Behind these there are values, native types, and interfaces of other kinds. */
+enum {
+  TK_NULL, TK_VOID, TK_SHORT, TK_LONG, TK_USHORT, TK_ULONG, TK_FLOAT, TK_DOUBLE, TK_BOOLEAN, TK_CHAR, TK_OCTET, TK_ANY,
+  TK_TYPECODE, TK_PRINCIPAL, TK_OBJREF, TK_STRUCT, TK_UNION, TK_ENUM, TK_STRING, TK_SEQUENCE, TK_ARRAY, TK_ALIAS,
+  TK_EXCEPT, TK_LONGLONG, TK_ULONGLONG, TK_LONGDOUBLE, TK_WCHAR, TK_WSTRING, TK_FIXED
+};
+#define INDIRECTION UINT32_C(0xffffffff)
+enum { ANY_DEPTH = 128, DIGITS = 31 };
+
+/* A TypeCode. Others are named by their indices. */
+struct code {
+  uint32_t kind;
+  uint32_t number;       /* a bound, a length, or how many names or digits there are */
+  uint32_t inner;        /* of a list, an alias and an indirection what it is of, of a union its discriminator */
+  uint32_t first, count; /* its members */
+  uint32_t fallback;     /* of a union: which of these is the default one, from 1; 0: none */
+  uint64_t start;        /* where it begins, from 1; 0: it was not read yet */
+  uint64_t label;        /* of a member of a union */
+};
+
+/* The TypeCodes in one, which is the first. */
+struct codes {
+  struct code *list;
+  uint32_t count, room;
+  const struct reader *in; /* whose memory they take */
+};
+
+/* Where a TypeCode is read: in octets that stand at an index of all. */
+struct cursor {
+  const unsigned char *octets;
+  size_t size;
+  lr_place place;
+  uint64_t base;
+};
+
+static int64_t next_ulong(struct cursor *at, uint32_t *value) {
+  return lr_get_ulong(at->octets, at->size, &at->place, value);
+}
+
+static int64_t skip_text(struct cursor *at) {
+  uint64_t start, length;
+  return lr_get_string(at->octets, at->size, &at->place, &start, &length);
+}
+
+/* Enters the encapsulation that comes next (9.3.3). */
+static int64_t enter(struct cursor *at, struct cursor *inner) {
+  uint64_t start, length;
+  lr_place place;
+  int64_t done = lr_get_encapsulation(at->octets, at->size, &at->place, &start, &length, &place);
+  if (done < 0) return done;
+  *inner = (struct cursor){at->octets + start, (size_t)length, place, at->base + start};
+  return LR_OK;
+}
+
+/* Adds so many TypeCodes, which are read later, and answers the index of the first. */
+static int64_t add_codes(struct codes *codes, uint32_t count) {
+  if (claim(codes->in, (uint64_t)count * sizeof *codes->list) < 0) return LR_E_VALUE;
+  if (count > codes->room - codes->count) {
+    const uint64_t room = (uint64_t)codes->count + (codes->count > count ? codes->count : count);
+    if (room > UINT32_MAX || room > SIZE_MAX / sizeof *codes->list) return LR_E_MEMORY;
+    struct code *list = realloc(codes->list, (size_t)room * sizeof *list);
+    if (list == NULL) return LR_E_MEMORY;
+    codes->list = list;
+    codes->room = (uint32_t)room;
+  }
+  if (count > 0) memset(codes->list + codes->count, 0, count * sizeof *codes->list);
+  codes->count += count;
+  return codes->count - count;
+}
+
+/* The index of what is no alias and no indirection. LR_E_VALUE: one is of itself. */
+static int64_t resolved(const struct codes *codes, uint32_t index) {
+  for (int hops = 0; hops < 2 * ANY_DEPTH; hops++) {
+    const struct code *code = &codes->list[index];
+    if (code->kind != INDIRECTION && code->kind != TK_ALIAS) return index;
+    index = code->inner;
+  }
+  return LR_E_VALUE;
+}
+
+static int64_t parse_code(struct codes *codes, uint32_t index, struct cursor *at, unsigned depth);
+
+/* An indirection names where a TypeCode begins that stands before it, by an offset from itself (9.3.5.1.3). */
+static int64_t parse_indirection(struct codes *codes, uint32_t index, struct cursor *at) {
+  int32_t offset = 0;
+  uint32_t found = 0;
+  const uint64_t from = at->base + at->place.next + 1;
+  int64_t done = lr_get_long(at->octets, at->size, &at->place, &offset);
+  if (done == LR_OK) done = claim(codes->in, codes->count / 8);
+  if (done < 0) return done;
+  if (offset >= 0 || (uint64_t)-(int64_t)offset >= from) return LR_E_VALUE;
+  const uint64_t start = from - (uint64_t)-(int64_t)offset;
+  while (found < codes->count && codes->list[found].start != start) found++;
+  if (found == codes->count) return LR_E_VALUE;
+  codes->list[index].kind = INDIRECTION;
+  codes->list[index].inner = found;
+  return LR_OK;
+}
+
+/* Reads the TypeCode of what a list or an alias is of, or by which a union is discriminated. */
+static int64_t parse_inner(struct codes *codes, uint32_t index, struct cursor *at, unsigned depth) {
+  int64_t inner = add_codes(codes, 1);
+  if (inner < 0) return inner;
+  codes->list[index].inner = (uint32_t)inner;
+  return parse_code(codes, (uint32_t)inner, at, depth);
+}
+
+static int64_t add_members(struct codes *codes, uint32_t index, struct cursor *at) {
+  uint32_t count = 0;
+  int64_t first = next_ulong(at, &count);
+  if (first == LR_OK) first = add_codes(codes, count);
+  if (first < 0) return first;
+  codes->list[index].first = (uint32_t)first;
+  codes->list[index].count = count;
+  return LR_OK;
+}
+
+static int64_t parse_struct(struct codes *codes, uint32_t index, struct cursor *at, unsigned depth) {
+  int64_t done = add_members(codes, index, at);
+  const uint32_t first = codes->list[index].first, count = codes->list[index].count;
+  for (uint32_t member = 0; done == LR_OK && member < count; member++) {
+    done = skip_text(at);
+    if (done == LR_OK) done = parse_code(codes, first + member, at, depth);
+  }
+  return done;
+}
+
+/* The label of a member, by the type of the discriminator; LR_E_VALUE where it can't be one. */
+static int64_t next_label(struct cursor *at, uint32_t kind, uint64_t *label) {
+  uint8_t octet = 0;
+  uint16_t half = 0;
+  uint32_t word = 0;
+  int64_t done = LR_E_VALUE;
+  if (kind == TK_BOOLEAN || kind == TK_CHAR || kind == TK_OCTET)
+    done = lr_get_octet(at->octets, at->size, &at->place, &octet);
+  if (kind == TK_SHORT || kind == TK_USHORT) done = lr_get_ushort(at->octets, at->size, &at->place, &half);
+  if (kind == TK_LONG || kind == TK_ULONG || kind == TK_ENUM) done = next_ulong(at, &word);
+  *label = (uint64_t)octet + half + word;
+  if (kind == TK_LONGLONG || kind == TK_ULONGLONG) done = lr_get_ulonglong(at->octets, at->size, &at->place, label);
+  return done;
+}
+
+static int64_t parse_union(struct codes *codes, uint32_t index, struct cursor *at, unsigned depth) {
+  int32_t fallback = 0;
+  int64_t done = parse_inner(codes, index, at, depth), found = done;
+  if (done == LR_OK) done = found = resolved(codes, codes->list[index].inner);
+  if (done >= 0) done = lr_get_long(at->octets, at->size, &at->place, &fallback);
+  if (done == LR_OK) done = add_members(codes, index, at);
+  if (done < 0) return done;
+  const uint32_t kind = codes->list[found].kind, first = codes->list[index].first, count = codes->list[index].count;
+  if (fallback < -1 || (fallback >= 0 && (uint32_t)fallback >= count)) return LR_E_VALUE;
+  codes->list[index].fallback = (uint32_t)(fallback + 1);
+  for (uint32_t member = 0; done == LR_OK && member < count; member++) {
+    done = next_label(at, kind, &codes->list[first + member].label);
+    if (done == LR_OK) done = skip_text(at);
+    if (done == LR_OK) done = parse_code(codes, first + member, at, depth);
+  }
+  return done;
+}
+
+/* Reads what is in the encapsulation of a TypeCode. (What is behind that, as the names of an enum, has no effect.) */
+static int64_t parse_constructed(struct codes *codes, uint32_t index, struct cursor *at, unsigned depth) {
+  const uint32_t kind = codes->list[index].kind;
+  const bool is_list = kind == TK_SEQUENCE || kind == TK_ARRAY;
+  struct cursor in;
+  int64_t done = enter(at, &in);
+  if (done == LR_OK && !is_list) done = skip_text(&in);
+  if (done == LR_OK && !is_list) done = skip_text(&in);
+  if (done == LR_OK && (is_list || kind == TK_ALIAS)) done = parse_inner(codes, index, &in, depth);
+  if (done == LR_OK && (is_list || kind == TK_ENUM)) done = next_ulong(&in, &codes->list[index].number);
+  if (done == LR_OK && (kind == TK_STRUCT || kind == TK_EXCEPT)) done = parse_struct(codes, index, &in, depth);
+  return done == LR_OK && kind == TK_UNION ? parse_union(codes, index, &in, depth) : done;
+}
+
+static int64_t parse_fixed(struct code *code, struct cursor *at) {
+  uint16_t digits = 0;
+  int16_t scale;
+  int64_t done = lr_get_ushort(at->octets, at->size, &at->place, &digits);
+  code->number = digits;
+  if (done == LR_OK) done = lr_get_short(at->octets, at->size, &at->place, &scale);
+  return done == LR_OK && digits > DIGITS ? LR_E_VALUE : done;
+}
+
+/* Reads a TypeCode into the one of an index. LR_E_VALUE: it can't be passed on. */
+static int64_t parse_code(struct codes *codes, uint32_t index, struct cursor *at, unsigned depth) {
+  uint32_t kind = 0;
+  int64_t done = depth > ANY_DEPTH ? LR_E_VALUE : next_ulong(at, &kind);
+  if (done < 0) return done;
+  if (kind == INDIRECTION) return parse_indirection(codes, index, at);
+  struct code *code = &codes->list[index];
+  code->kind = kind;
+  code->start = at->base + at->place.next - 3;
+  switch (kind) {
+    case TK_STRING:
+    case TK_WSTRING: return next_ulong(at, &code->number);
+    case TK_FIXED: return parse_fixed(code, at);
+    case TK_OBJREF:
+    case TK_STRUCT:
+    case TK_UNION:
+    case TK_ENUM:
+    case TK_SEQUENCE:
+    case TK_ARRAY:
+    case TK_ALIAS:
+    case TK_EXCEPT: return parse_constructed(codes, index, at, depth + 1);
+    default: return kind > TK_FIXED ? LR_E_VALUE : LR_OK;
+  }
+}
+
+/* ---- anys ---- */
+
+/* Walks values of a type from a reader; what it passes it writes anew, if there is a writer. */
+struct walk {
+  const struct codes *codes;
+  const struct reader *in;
+  const struct writer *out;
+};
+
+/* How much of a place aligns it. */
+static size_t padding_at(const lr_place *place, size_t alignment) {
+  return (size_t)(alignment - (place->at + place->next) % alignment) % alignment;
+}
+
+/* Takes octets from a reader. */
+static int64_t pass(const struct reader *in, size_t alignment, size_t size, const unsigned char **found) {
+  const size_t left = in->size - (size_t)in->place->next, padding = padding_at(in->place, alignment);
+  if (padding > left || size > left - padding) return LR_E_SHORT;
+  *found = (const unsigned char *)in->octets + in->place->next + padding;
+  in->place->next += padding + size;
+  return LR_OK;
+}
+
+/* Makes room for octets in a writer, behind zeros that align them. */
+static int64_t make_room(const struct writer *out, size_t alignment, size_t size, unsigned char **found) {
+  const size_t left = out->size - (size_t)out->place->next, padding = padding_at(out->place, alignment);
+  if (padding > left || size > left - padding) return LR_E_ROOM;
+  *found = (unsigned char *)out->room + out->place->next + padding;
+  if (padding > 0) memset(*found - padding, 0, padding);
+  out->place->next += padding + size;
+  return LR_OK;
+}
+
+/* Copies numbers of so many octets each, the other way around. */
+static void turn(unsigned char *to, const unsigned char *from, size_t size, size_t count) {
+  for (size_t index = 0; index < size * count; index++)
+    to[index] = from[index / size * size + (size - 1 - index % size)];
+}
+
+/* Writes numbers that were read, where there is a writer. */
+static int64_t write_numbers(const struct walk *walk, size_t alignment, size_t size, size_t count,
+                             const unsigned char *from) {
+  unsigned char *to;
+  if (walk->out == NULL) return LR_OK;
+  int64_t done = make_room(walk->out, alignment, size * count, &to);
+  if (done < 0) return done;
+  if (walk->out->place->order == walk->in->place->order)
+    memcpy(to, from, size * count);
+  else
+    turn(to, from, size, count);
+  return LR_OK;
+}
+
+/* Passes so many numbers of so many octets each, and names these. */
+static int64_t pass_numbers(const struct walk *walk, size_t size, size_t count, const unsigned char **found) {
+  if (count == 0) return LR_OK;
+  if (count > walk->in->size / size) return LR_E_SHORT;
+  int64_t done = pass(walk->in, size, size * count, found);
+  return done < 0 ? done : write_numbers(walk, size, size, count, *found);
+}
+
+static int64_t pass_number(const struct walk *walk, size_t size, uint64_t *number) {
+  const unsigned char *octets = NULL;
+  int64_t done = pass_numbers(walk, size, 1, &octets);
+  *number = 0;
+  for (size_t index = 0; done == LR_OK && index < size; index++)
+    *number = *number << 8 | octets[walk->in->place->order == LR_ORDER_BIG ? index : size - 1 - index];
+  return done;
+}
+
+/* Octets behind their number, whose last one is a NUL where they are a text. */
+static int64_t pass_octets(const struct walk *walk, size_t of_number, bool is_text, uint64_t bound) {
+  uint64_t count;
+  const unsigned char *octets = NULL;
+  int64_t done = pass_number(walk, of_number, &count);
+  if (done == LR_OK) done = pass_numbers(walk, 1, (size_t)count, &octets);
+  if (done < 0 || !is_text) return done;
+  return (count > 0 && octets[count - 1] != 0) || (bound != 0 && count > bound + 1) ? LR_E_VALUE : LR_OK;
+}
+
+static int64_t pass_value(const struct walk *walk, uint32_t index, unsigned depth);
+
+static const uint8_t number_sizes[TK_FIXED + 1] = {
+    [TK_SHORT] = 2, [TK_LONG] = 4,  [TK_USHORT] = 2, [TK_ULONG] = 4,    [TK_FLOAT] = 4,    [TK_DOUBLE] = 8,
+    [TK_BOOLEAN] = 1, [TK_CHAR] = 1, [TK_OCTET] = 1,  [TK_LONGLONG] = 8, [TK_ULONGLONG] = 8};
+
+static int64_t pass_list(const struct walk *walk, uint32_t member, uint64_t count, unsigned depth) {
+  const unsigned char *octets;
+  const int64_t found = resolved(walk->codes, member);
+  const size_t size = found < 0 ? 0 : number_sizes[walk->codes->list[found].kind];
+  if (found < 0 || size > 0) return found < 0 ? found : pass_numbers(walk, size, (size_t)count, &octets);
+  int64_t done = LR_OK;
+  for (; done == LR_OK && count > 0; count--) done = pass_value(walk, (uint32_t)found, depth);
+  return done;
+}
+
+static int64_t pass_sequence(const struct walk *walk, const struct code *code, unsigned depth) {
+  uint64_t count;
+  int64_t done = pass_number(walk, 4, &count);
+  if (done == LR_OK && code->number != 0 && count > code->number) return LR_E_VALUE;
+  return done < 0 ? done : pass_list(walk, code->inner, count, depth);
+}
+
+/* The members of a struct, or of an exception behind its id (9.3.5.5). */
+static int64_t pass_struct(const struct walk *walk, const struct code *code, unsigned depth) {
+  int64_t done = code->kind == TK_EXCEPT ? pass_octets(walk, 4, true, 0) : LR_OK;
+  for (uint32_t member = 0; done == LR_OK && member < code->count; member++)
+    done = pass_value(walk, code->first + member, depth);
+  return done;
+}
+
+static int64_t pass_union(const struct walk *walk, const struct code *code, unsigned depth) {
+  const int64_t inner = resolved(walk->codes, code->inner);
+  const uint32_t kind = inner < 0 ? TK_NULL : walk->codes->list[inner].kind;
+  const size_t size = kind == TK_ENUM ? 4 : number_sizes[kind];
+  uint64_t label;
+  if (size == 0 || kind == TK_FLOAT || kind == TK_DOUBLE) return LR_E_VALUE;
+  int64_t done = pass_number(walk, size, &label);
+  if (done == LR_OK) done = claim(walk->in, code->count / 8);
+  if (done < 0) return done;
+  const struct code *members = walk->codes->list + code->first;
+  uint32_t member = 0;
+  while (member < code->count && (member + 1 == code->fallback || members[member].label != label)) member++;
+  if (member == code->count && code->fallback > 0) member = code->fallback - 1;
+  return member == code->count ? LR_OK : pass_value(walk, code->first + member, depth);
+}
+
+static int64_t pass_enum(const struct walk *walk, const struct code *code) {
+  uint64_t number;
+  int64_t done = pass_number(walk, 4, &number);
+  return done == LR_OK && number >= code->number ? LR_E_VALUE : done;
+}
+
+/* 16 octets, aligned by 8, which are turned as a whole. */
+static int64_t pass_longdouble(const struct walk *walk) {
+  const unsigned char *octets;
+  int64_t done = pass(walk->in, 8, 16, &octets);
+  return done < 0 ? done : write_numbers(walk, 8, 16, 1, octets);
+}
+
+/* A type id, and profiles, each a tag and its data (9.6.2). */
+static int64_t pass_reference(const struct walk *walk) {
+  uint64_t count = 0, tag;
+  int64_t done = pass_octets(walk, 4, true, 0);
+  if (done == LR_OK) done = pass_number(walk, 4, &count);
+  for (; done == LR_OK && count > 0; count--) {
+    done = pass_number(walk, 4, &tag);
+    if (done == LR_OK) done = pass_octets(walk, 4, false, 0);
+  }
+  return done;
+}
+
+/* Writes a TypeCode anew: what is in encapsulations stays as it is, indirections too, which stay in them. */
+static int64_t write_code(const struct walk *walk, uint32_t kind, const unsigned char *from, size_t size) {
+  unsigned char *to;
+  if (walk->out == NULL) return LR_OK;
+  int64_t done = make_room(walk->out, 4, size, &to);
+  if (done < 0) return done;
+  memcpy(to, from, size);
+  if (walk->out->place->order == walk->in->place->order) return LR_OK;
+  turn(to, from, 4, 1);
+  if (size >= 8) turn(to + 4, from + 4, kind == TK_FIXED ? 2 : 4, kind == TK_FIXED ? 2 : 1);
+  return LR_OK;
+}
+
+/* Passes a TypeCode, which is the first of some, and names its octets. */
+static int64_t pass_code(const struct walk *walk, struct codes *codes, unsigned depth, const unsigned char **found,
+                         size_t *size) {
+  const struct reader *in = walk->in;
+  int64_t done = pass(in, 4, 0, found);
+  if (done == LR_OK) done = add_codes(codes, 1);
+  struct cursor at = {in->octets, in->size, *in->place, 0};
+  if (done == LR_OK) done = parse_code(codes, 0, &at, depth);
+  if (done < 0) return done;
+  *size = (size_t)(at.place.next - in->place->next);
+  in->place->next = at.place.next;
+  return write_code(walk, codes->list[0].kind, *found, *size);
+}
+
+/* A TypeCode, and a value of it where that is there. */
+static int64_t pass_any(const struct walk *walk, bool has_value, unsigned depth) {
+  struct codes codes = {NULL, 0, 0, walk->in};
+  const struct walk inner = {&codes, walk->in, walk->out};
+  const unsigned char *octets;
+  size_t size;
+  int64_t done = pass_code(&inner, &codes, depth, &octets, &size);
+  if (done == LR_OK && has_value) done = pass_value(&inner, 0, depth);
+  free(codes.list);
+  return done;
+}
+
+/* Passes a value of the type of an index. */
+static int64_t pass_value(const struct walk *walk, uint32_t index, unsigned depth) {
+  const int64_t found = resolved(walk->codes, index);
+  if (found < 0 || depth > ANY_DEPTH) return LR_E_VALUE;
+  const struct code *code = &walk->codes->list[found];
+  uint64_t number;
+  if (number_sizes[code->kind] > 0) return pass_number(walk, number_sizes[code->kind], &number);
+  if (claim(walk->in, 1) < 0) return LR_E_VALUE;
+  switch (code->kind) {
+    case TK_ANY: return pass_any(walk, true, depth + 1);
+    case TK_TYPECODE: return pass_any(walk, false, depth + 1);
+    case TK_OBJREF: return pass_reference(walk);
+    case TK_STRUCT:
+    case TK_EXCEPT: return pass_struct(walk, code, depth + 1);
+    case TK_UNION: return pass_union(walk, code, depth + 1);
+    case TK_ENUM: return pass_enum(walk, code);
+    case TK_STRING: return pass_octets(walk, 4, true, code->number);
+    case TK_SEQUENCE: return pass_sequence(walk, code, depth + 1);
+    case TK_ARRAY: return pass_list(walk, code->inner, code->number, depth + 1);
+    case TK_LONGDOUBLE: return pass_longdouble(walk);
+    case TK_PRINCIPAL:
+    case TK_WSTRING: return pass_octets(walk, 4, false, 0); /* (as GIOP 1.2 has wide characters, 9.3.1.6) */
+    case TK_WCHAR: return pass_octets(walk, 1, false, 0);
+    case TK_FIXED: return pass_numbers(walk, 1, code->number / 2 + 1, &(const unsigned char *){NULL});
+    default: return LR_OK;
+  }
+}
+
+/* Takes octets into a sequence that is empty. */
+static int64_t keep_octets(const struct reader *in, const unsigned char *octets, size_t size,
+                           lr_idl_octet__sequence *kept) {
+  if (size > UINT32_MAX || claim(in, size) < 0) return LR_E_VALUE;
+  if (size == 0) return LR_OK;
+  kept->_buffer = malloc(size);
+  if (kept->_buffer == NULL) return LR_E_MEMORY;
+  memcpy(kept->_buffer, octets, size);
+  kept->_length = (uint32_t)size;
+  return LR_OK;
+}
+
+static int64_t get_any(const struct reader *in, lr_idl_any *any) {
+  struct codes codes = {NULL, 0, 0, in};
+  const struct walk walk = {&codes, in, NULL};
+  const unsigned char *type, *end;
+  size_t size;
+  int64_t done = pass_code(&walk, &codes, 0, &type, &size);
+  if (done == LR_OK) done = pass_value(&walk, 0, 0);
+  if (done == LR_OK) done = pass(in, 1, 0, &end);
+  free(codes.list);
+  if (done < 0) return done;
+  any->order = in->place->order;
+  any->at = (uint32_t)((in->place->at + (uint64_t)(type - (const unsigned char *)in->octets)) % 8);
+  done = keep_octets(in, type, size, &any->type);
+  return done < 0 ? done : keep_octets(in, type + size, (size_t)(end - type) - size, &any->value);
+}
+
+/* Writes an any as it came. */
+static int64_t put_same(const struct writer *out, const lr_idl_any *any) {
+  unsigned char *to;
+  int64_t done = make_room(out, 4, (size_t)any->type._length + any->value._length, &to);
+  if (done < 0) return done;
+  memcpy(to, any->type._buffer, any->type._length);
+  if (any->value._length > 0) memcpy(to + any->type._length, any->value._buffer, any->value._length);
+  return LR_OK;
+}
+
+static int64_t put_any(const struct writer *out, const lr_idl_any *any) {
+  const uint64_t end = out->place->at + out->place->next + padding_at(out->place, 4);
+  if (any->type._length == 0) return lr_put_ulong(out->room, out->size, out->place, TK_NULL);
+  if (any->order == out->place->order && any->at == end % 8) return put_same(out, any);
+  lr_place place = {any->at, 0, any->order, 0}, behind = {any->at + any->type._length, 0, any->order, 0};
+  uint64_t left = limit_of(0, (size_t)any->type._length + any->value._length);
+  const struct reader type = {any->type._buffer, any->type._length, &place, &left, 0};
+  const struct reader value = {any->value._buffer, any->value._length, &behind, &left, 0};
+  struct codes codes = {NULL, 0, 0, &type};
+  const struct walk of_type = {&codes, &type, out}, of_value = {&codes, &value, out};
+  const unsigned char *octets;
+  size_t size;
+  int64_t done = pass_code(&of_type, &codes, 0, &octets, &size);
+  if (done == LR_OK) done = pass_value(&of_value, 0, 0);
+  free(codes.list);
+  return done == LR_OK && (place.next != type.size || behind.next != value.size) ? LR_E_VALUE : done;
+}
+
+int64_t lr_idl_any__kind(const lr_idl_any *any) {
+  lr_place place = {any->at, 0, any->order, 0};
+  uint64_t left = limit_of(0, any->type._length);
+  const struct reader in = {any->type._buffer, any->type._length, &place, &left, 0};
+  struct codes codes = {NULL, 0, 0, &in};
+  const struct walk walk = {&codes, &in, NULL};
+  const unsigned char *octets;
+  size_t size;
+  if (any->type._length == 0) return TK_NULL;
+  int64_t done = pass_code(&walk, &codes, 0, &octets, &size);
+  if (done == LR_OK) done = resolved(&codes, 0);
+  if (done >= 0) done = codes.list[done].kind;
+  free(codes.list);
+  return done;
+}
+
+/* The TCKind of a basic type or a string; TK_NULL of another one. */
+static uint32_t kind_of(const lr_idl_type *type) {
+  static const uint8_t kinds[] = {
+      [LR_IDL_BOOLEAN] = TK_BOOLEAN, [LR_IDL_CHAR] = TK_CHAR, [LR_IDL_OCTET] = TK_OCTET, [LR_IDL_SHORT] = TK_SHORT,
+      [LR_IDL_USHORT] = TK_USHORT, [LR_IDL_LONG] = TK_LONG, [LR_IDL_ULONG] = TK_ULONG, [LR_IDL_LONGLONG] = TK_LONGLONG,
+      [LR_IDL_ULONGLONG] = TK_ULONGLONG, [LR_IDL_FLOAT] = TK_FLOAT, [LR_IDL_DOUBLE] = TK_DOUBLE,
+      [LR_IDL_STRING] = TK_STRING};
+  return type->kind <= LR_IDL_STRING ? kinds[type->kind] : TK_NULL;
+}
+
+int64_t lr_idl_any__value(const lr_idl_any *any, const lr_idl_type *type, void *value) {
+  const int64_t kind = lr_idl_any__kind(any);
+  lr_place place = {any->at + any->type._length, 0, any->order, 0};
+  memset(value, 0, type->size);
+  if (kind < 0) return kind;
+  if (kind == TK_NULL || (uint32_t)kind != kind_of(type)) return LR_E_VALUE;
+  return lr_idl_get(type, any->value._buffer, any->value._length, &place, value);
 }
 
 int64_t lr_idl_put(const lr_idl_type *type, void *room, size_t size, lr_place *place, const void *value) {
@@ -495,6 +1032,24 @@ static int64_t append(struct body *out, const lr_idl_type *type, const void *val
     out->octets = octets;
     out->room = room;
   }
+}
+
+/* What was written, as a sequence, which owns it. */
+static lr_idl_octet__sequence octets_of(const struct body *out) {
+  return (lr_idl_octet__sequence){(uint32_t)out->place.next, out->octets};
+}
+
+int64_t lr_idl_any__of(lr_idl_any *any, const lr_idl_type *type, const void *value) {
+  const uint32_t kind = kind_of(type);
+  struct body code = {NULL, 0, {0, 0, LR_ORDER_BIG, 0}}, out = {NULL, 0, {0, 0, LR_ORDER_BIG, 0}};
+  memset(any, 0, sizeof *any);
+  int64_t done = kind == TK_NULL ? LR_E_RANGE : append(&code, &lr_idl_ulong__type, &kind);
+  if (done == LR_OK && kind == TK_STRING) done = append(&code, &lr_idl_ulong__type, &type->count);
+  out.place.at = code.place.next;
+  if (done == LR_OK) done = append(&out, type, value);
+  *any = (lr_idl_any){LR_ORDER_BIG, 0, octets_of(&code), octets_of(&out)};
+  if (done < 0) lr_idl_any__free(any);
+  return done;
 }
 
 static int64_t append_all(struct body *out, const lr_idl_types *types, const void *const *values) {

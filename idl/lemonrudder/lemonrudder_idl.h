@@ -49,7 +49,8 @@ enum {
   LR_IDL_ARRAY,
   LR_IDL_STRUCT,
   LR_IDL_UNION,
-  LR_IDL_BODY
+  LR_IDL_BODY,
+  LR_IDL_ANY
 };
 
 typedef struct lr_idl_type lr_idl_type;
@@ -122,6 +123,38 @@ typedef struct {
 extern const lr_idl_type lr_idl_body__type;
 
 static inline void lr_idl_body__free(lr_idl_body *body) { lr_idl_free(&lr_idl_body__type, body); }
+
+/* ---- anys ---- */
+
+/* An any: a TypeCode and a value of it, by their octets in an order, LR_ORDER_.., as they came. The first one of the
+ * type stands at a place modulo 8, from which all are aligned, and the value stands behind the type. All zero it is
+ * null. It goes on as it came where it stands so too, else it is written anew, by its TypeCode: LR_E_VALUE and
+ * LR_E_SHORT where its octets are no value of that. Types stand in others 128 deep at most. */
+typedef struct {
+  uint32_t order;
+  uint32_t at;
+  lr_idl_octet__sequence type, value;
+} lr_idl_any;
+typedef struct { uint32_t _length; lr_idl_any *_buffer; } lr_idl_any__sequence;
+
+extern const lr_idl_type lr_idl_any__type;
+
+static inline void lr_idl_any__free(lr_idl_any *any) { lr_idl_free(&lr_idl_any__type, any); }
+
+static inline int64_t lr_idl_any__copy(const lr_idl_any *from, lr_idl_any *to) {
+  return lr_idl_copy(&lr_idl_any__type, from, to);
+}
+
+/* Makes an any, which is yours to free, of a value of a basic type or a string: lr_idl_any__of(&any,
+ * &lr_idl_long__type, &number). LR_E_RANGE: it is of another type; LR_E_MEMORY. */
+int64_t lr_idl_any__of(lr_idl_any *any, const lr_idl_type *type, const void *value);
+
+/* .. and the other way, also where its type has other names. LR_E_VALUE: it is of another type; else as lr_idl_get. */
+int64_t lr_idl_any__value(const lr_idl_any *any, const lr_idl_type *type, void *value);
+
+/* The TCKind of its type, of an alias that of what it names: 0 null, 2 short, 3 long, 15 a struct, 18 a string (CORBA
+ * 3.3 Part 2, 9.3.5.1). LR_E_VALUE, LR_E_SHORT: the octets are none; LR_E_MEMORY. */
+int64_t lr_idl_any__kind(const lr_idl_any *any);
 
 /* ---- references ---- */
 

@@ -96,7 +96,7 @@ def names_of(one: model.Declared) -> Iterator[str]:
 
 def own(type: object) -> str:
     """The name of a type that IDL has itself."""
-    names = {model.String: "string", model.Reference: "reference"}
+    names = {model.String: "string", model.Reference: "reference", model.Any: "any"}
     return f"lr_idl_{type.name if isinstance(type, model.Basic) else names[type.__class__]}"
 
 
@@ -117,7 +117,9 @@ def held(type: object) -> str:
         return flat(type.scope) + " "
     if isinstance(type, model.Basic):
         return VALUES[type.name] + " "
-    return "lr_idl_reference " if isinstance(type, model.Reference) else sequence_of(type.member) + " "
+    if isinstance(type, (model.Reference, model.Any)):
+        return own(type) + " "
+    return sequence_of(type.member) + " "
 
 
 def declared(type: object, name: str) -> str:
@@ -168,7 +170,7 @@ def owns(type: object) -> bool:
         return any(owns(member) for _, member in type.members)
     if isinstance(type, model.Union):
         return any(owns(case.type) for case in type.cases)
-    return isinstance(type, (model.String, model.Sequence, model.Reference))
+    return isinstance(type, (model.String, model.Sequence, model.Reference, model.Any))
 
 
 def is_new(type: object) -> bool:

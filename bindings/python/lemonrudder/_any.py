@@ -13,7 +13,7 @@ from typing import Callable, Dict, List, Optional
 from ._cdr import BIG, Reader, Writer
 from ._table import Order
 
-# TCKind (CORBA 3.3 Part 2, table 9.2); what is behind these are values, native types, and interfaces of other kinds
+# TCKind (CORBA 3.3 Part 2, 9.3.5.1): behind these there are values, native types, and interfaces of other kinds
 (NULL, VOID, SHORT, LONG, USHORT, ULONG, FLOAT, DOUBLE, BOOLEAN, CHAR, OCTET, ANY, TYPECODE, PRINCIPAL, OBJREF, STRUCT,
  UNION, ENUM, STRING, SEQUENCE, ARRAY, ALIAS, EXCEPT, LONGLONG, ULONGLONG, LONGDOUBLE, WCHAR, WSTRING, FIXED) = range(29)
 INDIRECTION = 0xffffffff
