@@ -1225,6 +1225,15 @@ class Ior : public Slot<lr_ior> {
 
 /* ---- CDR ---- */
 
+namespace detail {
+
+/* How many octets align what stands at a place. */
+inline std::size_t padding(std::uint64_t at, std::size_t alignment) noexcept {
+  return static_cast<std::size_t>((alignment - at % alignment) % alignment);
+}
+
+}  // namespace detail
+
 /* Reads values one after another. At an error it stands where it stood. It owns nothing, and may be copied. */
 class Reader {
  public:
@@ -1285,8 +1294,19 @@ class Reader {
     return Reader(octets_.from(start).first(length), inner);
   }
 
-  /* What was not read. */
+  /* So many octets as they are, which are aligned as a number of so many. */
+  Result<Octets> get_raw(std::size_t size, std::size_t alignment = 1) noexcept {
+    const std::size_t left = rest().size(), padding = detail::padding(at(), alignment);
+    if (padding > left || size > left - padding) return Error(LR_E_SHORT);
+    const Octets found = rest().from(padding).first(size);
+    place_.next += padding + size;
+    return found;
+  }
+
+  /* What was not read, its order, and the place of its first octet. */
   Octets rest() const noexcept { return octets_.from(place_.next); }
+  Order order() const noexcept { return Order{place_.order}; }
+  std::uint64_t at() const noexcept { return place_.at + place_.next; }
 
   /* How much memory may be taken for what is read, as by lemonrudder_idl.hpp, in octets: in a new one 65536, and 16
    * times as many as it has octets. */
@@ -1424,10 +1444,22 @@ class GrowingWriter {
   }
   GrowingWriter& put_string(std::string_view text) noexcept { return put_all(lr_put_string, text.data(), text.size()); }
   GrowingWriter& put_octets(Octets data) noexcept { return put_all(lr_put_octets, data.data(), data.size()); }
+  /* Octets as they are, aligned as a number of so many. */
+  GrowingWriter& put_raw(Octets data, std::size_t alignment = 1) noexcept {
+    const std::size_t padding = detail::padding(at(), alignment);
+    if (!grow(data.size())) return *this;
+    std::uint8_t* const to = octets_.data() + place_.next;
+    std::fill_n(to, padding, std::uint8_t{0});
+    std::copy(data.begin(), data.end(), to + padding);
+    place_.next += padding + data.size();
+    return *this;
+  }
 
   /* Nothing, or the first error. */
   Done done() const noexcept { return error_; }
   Order order() const noexcept { return Order{place_.order}; }
+  /* The place of what is written next. */
+  std::uint64_t at() const noexcept { return place_.at + place_.next; }
   /* What was written, as long as nothing more is. */
   Octets octets() const noexcept { return {octets_.data(), static_cast<std::size_t>(place_.next)}; }
   /* The same to keep, or the first error. It begins anew then. */

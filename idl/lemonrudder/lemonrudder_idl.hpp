@@ -241,6 +241,463 @@ inline Result<std::string> ObjectReference::print() const {
   return text;
 }
 
+/* ---- anys ---- */
+
+namespace detail {
+
+/* TCKind (CORBA 3.3 Part 2, 9.3.5.1). Behind these there are values, native types, and interfaces of other kinds. */
+enum Kind : std::uint32_t {
+  tk_null, tk_void, tk_short, tk_long, tk_ushort, tk_ulong, tk_float, tk_double, tk_boolean, tk_char, tk_octet, tk_any,
+  tk_typecode, tk_principal, tk_objref, tk_struct, tk_union, tk_enum, tk_string, tk_sequence, tk_array, tk_alias,
+  tk_except, tk_longlong, tk_ulonglong, tk_longdouble, tk_wchar, tk_wstring, tk_fixed, tk_indirection = 0xffffffff
+};
+
+/* How deep types stand in others. */
+inline constexpr unsigned any_depth = 128;
+
+/* The size of a number of a kind; 0 of other values. */
+inline std::size_t size_of(std::uint32_t kind) noexcept {
+  constexpr std::uint8_t sizes[] = {0, 0, 2, 4, 2, 4, 4, 8, 1, 1, 1, 0, 0, 0, 0, 0, 0, 0, 0, 0, 0, 0, 0, 8, 8};
+  return kind < sizeof sizes ? sizes[kind] : 0;
+}
+
+/* .. of one that may discriminate a union. */
+inline std::size_t label_size_of(std::uint32_t kind) noexcept {
+  return kind == tk_float || kind == tk_double ? 0 : kind == tk_enum ? 4 : size_of(kind);
+}
+
+/* The number that octets of an order are. */
+inline std::uint64_t number_of(Octets octets, Order order) noexcept {
+  std::uint64_t number = 0;
+  const std::size_t last = octets.size() - 1;
+  for (std::size_t index = 0; index <= last; index++)
+    number = number << 8 | octets.data()[order == Order::big ? index : last - index];
+  return number;
+}
+
+/* A TypeCode. Others are named by their indices. */
+struct Code {
+  std::uint32_t kind = tk_null;
+  std::uint32_t number = 0;                   // a bound, a length, or how many names or digits there are
+  std::size_t inner = 0;                      // what a list, an alias or an indirection is of, or discriminates a union
+  std::size_t first = 0, count = 0;           // its members
+  std::size_t fallback = 0;                   // of a union: which of these is the default one, from 1; 0: none
+  const std::uint8_t* start = nullptr;        // where it begins; null: it was not read yet
+  std::uint64_t label = 0;                    // of a member of a union
+};
+
+/* The TypeCodes in one, which is the first. They take memory of what a reader may take. */
+class Codes {
+ public:
+  Done read(Reader& at, Reader& memory, unsigned depth) {
+    const auto front = at.get_raw(0, 4);
+    if (!front) return front.error();
+    front_ = front->data();
+    const auto first = add(1, memory);
+    return first ? parse(*first, at, memory, depth) : first.error();
+  }
+  const Code& operator[](std::size_t index) const noexcept { return list_[index]; }
+  /* The index of what is no alias and no indirection. LR_E_VALUE: one is of itself. */
+  Count resolved(std::size_t index) const noexcept {
+    for (unsigned hops = 0; hops < 2 * any_depth; hops++) {
+      if (list_[index].kind != tk_alias && list_[index].kind != tk_indirection) return index;
+      index = list_[index].inner;
+    }
+    return Error(LR_E_VALUE);
+  }
+
+ private:
+  /* Adds so many TypeCodes, which are read later. */
+  Count add(std::size_t count, Reader& memory) {
+    if (const Done done = memory.claim(std::uint64_t{count} * sizeof(Code)); !done) return done.error();
+    list_.resize(list_.size() + count);
+    return list_.size() - count;
+  }
+
+  Done parse(std::size_t index, Reader& at, Reader& memory, unsigned depth) {
+    if (depth > any_depth) return Error(LR_E_VALUE);
+    const std::uint8_t* const start = at.rest().data() + lemonrudder::detail::padding(at.at(), 4);
+    const auto kind = at.get_ulong();
+    if (!kind) return kind.error();
+    if (*kind == tk_indirection) return parse_indirection(index, at, memory);
+    list_[index].kind = *kind;
+    list_[index].start = start;
+    switch (*kind) {
+      case tk_string:
+      case tk_wstring: return into(at.get_ulong(), list_[index].number);
+      case tk_fixed: return parse_fixed(index, at);
+      case tk_objref:
+      case tk_struct:
+      case tk_union:
+      case tk_enum:
+      case tk_sequence:
+      case tk_array:
+      case tk_alias:
+      case tk_except: return parse_constructed(index, at, memory, depth + 1);
+      default: return Error(*kind > tk_fixed ? LR_E_VALUE : LR_OK);
+    }
+  }
+
+  /* An indirection names where a TypeCode begins that stands before it, by an offset from itself (9.3.5.1.3). */
+  Done parse_indirection(std::size_t index, Reader& at, Reader& memory) {
+    const std::ptrdiff_t from = at.rest().data() - front_;
+    const auto offset = at.get_long();
+    if (!offset || *offset >= 0 || -std::ptrdiff_t{*offset} > from) return Error(LR_E_VALUE);
+    if (const Done done = memory.claim(list_.size() / 8); !done) return done;
+    const std::uint8_t* const start = front_ + (from + *offset);
+    const auto found = std::find_if(list_.begin(), list_.end(), [&](const Code& one) { return one.start == start; });
+    if (found == list_.end()) return Error(LR_E_VALUE);
+    list_[index].kind = tk_indirection;
+    list_[index].inner = static_cast<std::size_t>(found - list_.begin());
+    return {};
+  }
+
+  Done parse_fixed(std::size_t index, Reader& at) {
+    const auto digits = at.get_ushort();
+    const auto scale = at.get_short();
+    if (!digits || !scale) return digits ? scale.error() : digits.error();
+    list_[index].number = *digits;
+    return Error(*digits > 31 ? LR_E_VALUE : LR_OK);
+  }
+
+  /* Reads what is in the encapsulation of a TypeCode. (What is behind that, as the names of an enum, has no effect.) */
+  Done parse_constructed(std::size_t index, Reader& at, Reader& memory, unsigned depth) {
+    auto in = at.get_encapsulation();
+    if (!in) return in.error();
+    const std::uint32_t kind = list_[index].kind;
+    const bool is_list = kind == tk_sequence || kind == tk_array;
+    Done done;
+    if (!is_list) done = skip_text(*in);
+    if (done && !is_list) done = skip_text(*in);
+    if (done && (is_list || kind == tk_alias)) done = parse_inner(index, *in, memory, depth);
+    if (done && (is_list || kind == tk_enum)) done = into(in->get_ulong(), list_[index].number);
+    if (done && (kind == tk_struct || kind == tk_except)) done = parse_members(index, *in, memory, depth, 0);
+    return done && kind == tk_union ? parse_union(index, *in, memory, depth) : done;
+  }
+
+  static Done skip_text(Reader& at) { return at.get_string().error(); }
+
+  /* Reads the TypeCode of what a list or an alias is of, or by which a union is discriminated. */
+  Done parse_inner(std::size_t index, Reader& at, Reader& memory, unsigned depth) {
+    const auto inner = add(1, memory);
+    if (!inner) return inner.error();
+    list_[index].inner = *inner;
+    return parse(*inner, at, memory, depth);
+  }
+
+  Done parse_union(std::size_t index, Reader& at, Reader& memory, unsigned depth) {
+    const Done done = parse_inner(index, at, memory, depth);
+    const auto inner = done ? resolved(list_[index].inner) : done.error();
+    const auto fallback = at.get_long();
+    if (!inner || !fallback) return inner ? fallback.error() : inner.error();
+    const std::size_t size = label_size_of(list_[*inner].kind);
+    if (size == 0 || *fallback < -1) return Error(LR_E_VALUE);
+    list_[index].fallback = static_cast<std::size_t>(std::int64_t{*fallback} + 1);
+    return parse_members(index, at, memory, depth, size);
+  }
+
+  /* Reads members: of a union behind their labels of such a size. */
+  Done parse_members(std::size_t index, Reader& at, Reader& memory, unsigned depth, std::size_t label_size) {
+    const auto count = at.get_count();
+    const auto first = count ? add(*count, memory) : count;
+    if (!first || list_[index].fallback > *count) return first ? Error(LR_E_VALUE) : first.error();
+    list_[index].first = *first;
+    list_[index].count = *count;
+    Done done;
+    for (std::size_t member = *first; done && member < *first + *count; member++) {
+      const auto label = at.get_raw(label_size, std::max<std::size_t>(label_size, 1));
+      if (label && label_size > 0) list_[member].label = number_of(*label, at.order());
+      done = label ? skip_text(at) : label.error();
+      if (done) done = parse(member, at, memory, depth);
+    }
+    return done;
+  }
+
+  std::vector<Code> list_;
+  const std::uint8_t* front_ = nullptr;
+};
+
+/* Walks values from a reader; what it passes it writes anew, if there is a writer. */
+class Walk {
+ public:
+  Walk(Reader& in, GrowingWriter* out) noexcept : in_(in), out_(out) {}
+
+  /* Passes a TypeCode: what is in encapsulations stays as it is, indirections too, which stay in them. */
+  Done code(Codes& codes, unsigned depth) {
+    const auto front = in_.get_raw(0, 4);
+    Reader at = in_;
+    const Done done = front ? codes.read(at, in_, depth) : front.error();
+    if (!done) return done;
+    const auto octets = in_.get_raw(static_cast<std::size_t>(at.at() - in_.at()));
+    if (out_ == nullptr || !octets) return octets.error();
+    if (!is_turned() || octets->size() == 4) return put(*octets, 4, 4);
+    const std::size_t half = codes[0].kind == tk_fixed ? 2 : 4;
+    Done written = put(octets->first(4), 4, 4);
+    if (written) written = put(octets->from(4).first(4), half, half);
+    return written ? out_->put_raw(octets->from(8)).done() : written;
+  }
+
+  /* Passes a value of the type of an index. */
+  Done value(const Codes& codes, std::size_t index, unsigned depth) {
+    const auto found = codes.resolved(index);
+    if (!found || depth > any_depth) return Error(LR_E_VALUE);
+    const Code& code = codes[*found];
+    if (size_of(code.kind) > 0) return numbers(size_of(code.kind), 1).error();
+    if (const Done done = in_.claim(1); !done) return done;
+    switch (code.kind) {
+      case tk_any: return any(depth + 1, true);
+      case tk_typecode: return any(depth + 1, false);
+      case tk_objref: return reference();
+      case tk_struct:
+      case tk_except: return structure(codes, code, depth + 1);
+      case tk_union: return choice(codes, code, depth + 1);
+      case tk_enum: return name(code);
+      case tk_string: return text(code.number);
+      case tk_sequence: return sequence(codes, code, depth + 1);
+      case tk_array: return list(codes, code.inner, code.number, depth + 1);
+      case tk_longdouble: return long_double();
+      case tk_principal:
+      case tk_wstring: return counted(4).error();  // (as GIOP 1.2 has wide characters, 9.3.1.6)
+      case tk_wchar: return counted(1).error();
+      case tk_fixed: return numbers(1, code.number / 2 + 1).error();
+      default: return {};
+    }
+  }
+
+ private:
+  bool is_turned() const noexcept { return out_ != nullptr && out_->order() != in_.order(); }
+
+  /* Writes numbers of so many octets each. */
+  Done put(Octets octets, std::size_t alignment, std::size_t size) {
+    if (!is_turned() || size == 1) return out_->put_raw(octets, alignment).done();
+    std::array<std::uint8_t, 16> turned{};
+    for (; !octets.empty() && out_->done(); octets = octets.from(size)) {
+      std::reverse_copy(octets.begin(), octets.begin() + size, turned.begin());
+      out_->put_raw({turned.data(), size}, alignment);
+    }
+    return out_->done();
+  }
+
+  /* Passes so many numbers of so many octets each. */
+  Result<Octets> numbers(std::size_t size, std::size_t count) {
+    if (count == 0) return Octets();
+    if (count > in_.rest().size() / size) return Error(LR_E_SHORT);
+    const auto octets = in_.get_raw(size * count, size);
+    if (!octets || out_ == nullptr) return octets;
+    const Done done = put(*octets, size, size);
+    return done ? octets : done.error();
+  }
+
+  Result<std::uint64_t> number(std::size_t size) {
+    return numbers(size, 1).transform([this](Octets octets) { return number_of(octets, in_.order()); });
+  }
+
+  /* Octets behind their number, which has so many. */
+  Result<Octets> counted(std::size_t size) {
+    return number(size).and_then([this](std::uint64_t count) { return numbers(1, static_cast<std::size_t>(count)); });
+  }
+
+  Done text(std::uint64_t bound) {
+    const auto octets = counted(4);
+    if (!octets) return octets.error();
+    const bool has_end = octets->empty() || octets->end()[-1] == 0;
+    return Error(has_end && (bound == 0 || octets->size() <= bound + 1) ? LR_OK : LR_E_VALUE);
+  }
+
+  Done list(const Codes& codes, std::size_t member, std::uint64_t count, unsigned depth) {
+    const auto found = codes.resolved(member);
+    if (!found) return found.error();
+    const std::size_t size = size_of(codes[*found].kind);
+    if (size > 0) return numbers(size, static_cast<std::size_t>(count)).error();
+    Done done;
+    for (; done && count > 0; count--) done = value(codes, *found, depth);
+    return done;
+  }
+
+  Done sequence(const Codes& codes, const Code& code, unsigned depth) {
+    const auto count = number(4);
+    if (!count || (code.number != 0 && *count > code.number)) return count ? Error(LR_E_VALUE) : count.error();
+    return list(codes, code.inner, *count, depth);
+  }
+
+  /* The members of a struct, or of an exception behind its id (9.3.5.5). */
+  Done structure(const Codes& codes, const Code& code, unsigned depth) {
+    Done done = code.kind == tk_except ? text(0) : Done();
+    for (std::size_t member = 0; done && member < code.count; member++) done = value(codes, code.first + member, depth);
+    return done;
+  }
+
+  Done choice(const Codes& codes, const Code& code, unsigned depth) {
+    const auto inner = codes.resolved(code.inner);
+    const std::size_t size = inner ? label_size_of(codes[*inner].kind) : 0;
+    if (size == 0) return Error(LR_E_VALUE);
+    const auto label = number(size);
+    const Done done = label ? in_.claim(code.count / 8) : label.error();
+    if (!done) return done;
+    std::size_t member = 0;
+    while (member < code.count && (member + 1 == code.fallback || codes[code.first + member].label != *label)) member++;
+    if (member == code.count && code.fallback > 0) member = code.fallback - 1;
+    return member == code.count ? Done() : value(codes, code.first + member, depth);
+  }
+
+  Done name(const Code& code) {
+    const auto found = number(4);
+    return found && *found >= code.number ? Error(LR_E_VALUE) : found.error();
+  }
+
+  /* 16 octets, aligned by 8, which are turned as a whole. */
+  Done long_double() {
+    const auto octets = in_.get_raw(16, 8);
+    return octets && out_ != nullptr ? put(*octets, 8, 16) : octets.error();
+  }
+
+  /* A type id, and profiles, each a tag and its data (9.6.2). */
+  Done reference() {
+    Done done = text(0);
+    const auto count = done ? number(4) : done.error();
+    for (std::uint64_t left = count.value_or(0); done && left > 0; left--) {
+      done = number(4).error();
+      if (done) done = counted(4).error();
+    }
+    return done ? count.error() : done;
+  }
+
+  /* A TypeCode, and a value of it where that is there. */
+  Done any(unsigned depth, bool has_value) {
+    Codes codes;
+    const Done done = code(codes, depth);
+    return done && has_value ? value(codes, 0, depth) : done;
+  }
+
+  Reader& in_;
+  GrowingWriter* out_;
+};
+
+/* The codec of a basic type, and its TCKind. */
+template <class Codec, std::uint32_t Number>
+struct Plain {
+  using Of = Codec;
+  static constexpr std::uint32_t kind = Number;
+};
+template <class T>
+struct PlainOf;
+template <>
+struct PlainOf<bool> : Plain<Boolean, tk_boolean> {};
+template <>
+struct PlainOf<char> : Plain<Char, tk_char> {};
+template <>
+struct PlainOf<std::uint8_t> : Plain<Octet, tk_octet> {};
+template <>
+struct PlainOf<std::int16_t> : Plain<Short, tk_short> {};
+template <>
+struct PlainOf<std::uint16_t> : Plain<UShort, tk_ushort> {};
+template <>
+struct PlainOf<std::int32_t> : Plain<Long, tk_long> {};
+template <>
+struct PlainOf<std::uint32_t> : Plain<ULong, tk_ulong> {};
+template <>
+struct PlainOf<std::int64_t> : Plain<LongLong, tk_longlong> {};
+template <>
+struct PlainOf<std::uint64_t> : Plain<ULongLong, tk_ulonglong> {};
+template <>
+struct PlainOf<float> : Plain<Float, tk_float> {};
+template <>
+struct PlainOf<double> : Plain<Double, tk_double> {};
+template <>
+struct PlainOf<std::string> : Plain<String<>, tk_string> {};
+
+}  // namespace detail
+
+/* An any: the octets of a TypeCode, and behind these those of a value of it, in an order, as they came. The first one
+ * stands at a place modulo 8, from which all are aligned. Without octets it is null. It goes on as it came where it
+ * stands so too, else it is written anew, by its TypeCode: LR_E_VALUE and LR_E_SHORT where its octets are no value of
+ * that. Types stand in others 128 deep at most. */
+struct Any {
+  Order order = Order::big;
+  std::uint32_t at = 0;
+  std::vector<std::uint8_t> type, octets;
+
+  /* An any of a basic type or a string: Any::of(std::int32_t{5}). LR_E_TEXT: a NUL in a string. */
+  template <class T>
+  static Result<Any> of(const T& value) {
+    GrowingWriter out;
+    Any made;
+    out.put_ulong(detail::PlainOf<T>::kind);
+    if (std::is_same_v<T, std::string>) out.put_ulong(0);
+    const auto size = static_cast<std::ptrdiff_t>(out.octets().size());
+    if (const Done done = detail::PlainOf<T>::Of::write(out, value); !done) return done.error();
+    made.type.assign(out.octets().begin(), out.octets().begin() + size);
+    made.octets.assign(out.octets().begin() + size, out.octets().end());
+    return made;
+  }
+  static Result<Any> of(const char* text) { return of(std::string(text)); }
+
+  /* .. and the other way, also where its type has other names: any.value<std::int32_t>(). LR_E_VALUE: it is of another
+   * type. */
+  template <class T>
+  Result<T> value() const {
+    const auto found = kind();
+    if (!found || *found != detail::PlainOf<T>::kind) return found ? Error(LR_E_VALUE) : found.error();
+    Reader in = reader();
+    T made{};
+    const Done done = detail::PlainOf<T>::Of::read(in, made);
+    return done ? Result<T>(std::move(made)) : done.error();
+  }
+
+  /* The TCKind of its type, of an alias that of what it names: 0 null, 2 short, 3 long, 15 a struct, 18 a string (CORBA
+   * 3.3 Part 2, 9.3.5.1). */
+  Result<std::uint32_t> kind() const {
+    if (type.empty()) return std::uint32_t{detail::tk_null};
+    detail::Codes codes;
+    Reader in(type, order, at);
+    const Done done = detail::Walk(in, nullptr).code(codes, 0);
+    const auto found = done ? codes.resolved(0) : done.error();
+    return found.transform([&](std::size_t index) { return codes[index].kind; });
+  }
+
+  /* Reads its value. */
+  Reader reader() const noexcept { return Reader(octets, order, at + type.size()); }
+
+  friend bool operator==(const Any& one, const Any& two) {
+    return one.order == two.order && one.at == two.at && one.type == two.type && one.octets == two.octets;
+  }
+  static Done _read(Reader& in, Any& value);
+  static Done _write(GrowingWriter& out, const Any& value);
+};
+
+inline Done Any::_read(Reader& in, Any& value) {
+  detail::Codes codes;
+  detail::Walk walk(in, nullptr);
+  if (const auto front = in.get_raw(0, 4); !front) return front.error();
+  const Octets first = in.rest();
+  value.at = static_cast<std::uint32_t>(in.at() % 8);
+  value.order = in.order();
+  Done done = walk.code(codes, 0);
+  const Octets middle = in.rest();
+  if (done) done = walk.value(codes, 0, 0);
+  const std::size_t size = first.size() - middle.size(), more = middle.size() - in.rest().size();
+  if (done) done = in.claim(size + more);
+  if (!done) return done;
+  value.type.assign(first.begin(), first.begin() + size);
+  value.octets.assign(middle.begin(), middle.begin() + more);
+  return done;
+}
+
+inline Done Any::_write(GrowingWriter& out, const Any& value) {
+  if (value.type.empty()) return out.put_ulong(detail::tk_null).done();
+  if (value.order == out.order() && value.at == (out.at() + 3) / 4 * 4 % 8)
+    return out.put_raw(value.type, 4).put_raw(value.octets).done();
+  std::vector<std::uint8_t> whole = value.type;
+  whole.insert(whole.end(), value.octets.begin(), value.octets.end());
+  Reader in(whole, value.order, value.at);
+  detail::Codes codes;
+  detail::Walk walk(in, &out);
+  Done done = walk.code(codes, 0);
+  if (done) done = walk.value(codes, 0, 0);
+  if (done && !in.rest().empty()) done = Error(LR_E_VALUE);
+  return done ? done : out.refuse("an any whose octets are no value of its type", done.error().number());
+}
+
 /* Several values, one behind the other. */
 template <class... Codec>
 struct Codecs {

@@ -54,6 +54,8 @@ def value(type: object) -> str:
         return "std::string"
     if isinstance(type, model.Reference):
         return f"{IDL}ObjectReference"
+    if isinstance(type, model.Any):
+        return f"{IDL}Any"
     if isinstance(type, model.Sequence):
         return f"std::vector<{value(type.member)}>"
     return f"std::array<{value(type.member)}, {type.size}>"
@@ -72,6 +74,8 @@ def codec(type: object) -> str:
         return f"{IDL}String<{type.bound or ''}>"
     if isinstance(type, model.Reference):
         return f"{IDL}Own<{IDL}ObjectReference>"
+    if isinstance(type, model.Any):
+        return f"{IDL}Own<{IDL}Any>"
     if isinstance(type, model.Sequence):
         return f"{IDL}Sequence<{codec(type.member)}{f', {type.bound}' if type.bound else ''}>"
     return f"{IDL}Array<{codec(type.member)}, {type.size}>"
