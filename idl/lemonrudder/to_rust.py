@@ -97,6 +97,8 @@ def value(type: object, at: At) -> str:
         return "_idl::String"
     if isinstance(type, model.Reference):
         return "_idl::Reference"
+    if isinstance(type, model.Any):
+        return "_idl::Any"
     if isinstance(type, model.Sequence):
         return f"_idl::Vec<{value(type.member, at)}>"
     return f"[{value(type.member, at)}; {type.size}]"
@@ -127,6 +129,8 @@ def codec(type: object, at: At) -> str:
         return f"_idl::Text<{type.bound}>" if type.bound else "_idl::Text"
     if isinstance(type, model.Reference):
         return "_idl::Reference"
+    if isinstance(type, model.Any):
+        return "_idl::Any"
     if isinstance(type, model.Array):
         return f"_idl::Array<{codec(type.member, at)}, {type.size}>"
     if is_octet(type.member):

@@ -122,9 +122,11 @@ class OmniOrb(unittest.TestCase):
         self.assertEqual(len(self.taken), TAKEN)
         for ran in (self.ran, self.ran_apart):
             self.assertEqual(ran.returncode, 0, ran.stderr)
+            self.assertEqual([line for line in ran.stderr.splitlines() if " any: " in line
+                              and not line.endswith(" any: the table leaves it out")], [])
         self.assertEqual(len(self.judge.names(".py") + self.apart.names(".py")), TAKEN)
-        self.assertIn(os.path.join(FOLDERS[1], "CosEventComm.idl:17: Warning: any: the operation is a raw one"),
-                      self.ran.stderr)
+        with open(os.path.join(self.judge.folder, "CosEventComm_idl.py"), encoding="ascii") as file:
+            self.assertIn("async def push(self, data: _idl.Any) -> None:", file.read())
 
     def test_c(self) -> None:
         """All sources in C compile."""
@@ -188,7 +190,7 @@ module Store {
   interface Named { readonly attribute string name; };
   interface Box : Named { Node keep(in Node tree) raises (Missing); };
   interface Deep : Named, Box {
-    any put(in any value) raises (Missing);
+    CORBA::TypeCode put(in CORBA::TypeCode value) raises (Missing);
     long call(in long call);
   };
 };
@@ -203,7 +205,7 @@ from Store import Deep, Missing, Node
 from Store__POA import Deep as DeepServant
 from lemonrudder import idl
 
-TK_LONG = 3
+TK_STRING = 18
 
 
 class Own(DeepServant):
@@ -217,12 +219,12 @@ class Own(DeepServant):
 
     def put(self, body: idl.Body) -> idl.RawReply:
         kind, number = body.unpack("Ll")
-        if kind != TK_LONG:
+        if kind != TK_STRING:
             raise lr.Refuse("MARSHAL")
         if number < 0:
             octets = lr.pack("ss", Missing._id, "below")
             return idl.RawReply(octets, status=lr.ReplyStatus.USER_EXCEPTION)
-        return idl.RawReply(lr.pack("Ll", TK_LONG, number + 1))
+        return idl.RawReply(lr.pack("Ll", TK_STRING, number + 1))
 
     def call(self, call: int) -> int:
         return call + 1
@@ -240,7 +242,7 @@ async def serve() -> None:
 
 async def put(deep: Deep, number: int) -> None:
     try:
-        print((await deep.put(lr.pack("Ll", TK_LONG, number))).unpack("Ll")[1])
+        print((await deep.put(lr.pack("Ll", TK_STRING, number))).unpack("Ll")[1])
     except lr.UserException as raised:
         assert raised.body is not None
         print("missing", raised.body.unpack("s")[0])
@@ -436,12 +438,12 @@ class Plain(unittest.TestCase):
         with tempfile.TemporaryDirectory(prefix="idl_table") as folder:
             path = os.path.join(folder, "table.idl")
             with open(path, "w", encoding="ascii") as file:
-                file.write("struct S;\ntypedef sequence<S> Some;\nstruct S { Some few; };\nstruct T { S one; };\n"
-                           "interface I { void f(in T x);\n  void g(in any x);\n  long h(); };\n")
+                file.write("struct S;\ntypedef sequence<S> Some;\nstruct S { Some few; };\nstruct T { S one; };"
+                           " struct A { any x; };\ninterface I { void f(in T x);\n  void g(in A x);\n  long h(); };\n")
             ran = omniidl([path], folder, "-Wbpartial,types")
             self.assertEqual(ran.stderr.splitlines(), [
-                f"{path}:6: Warning: any: the operation is a raw one",
-                f"{path}:5: Warning: I::f: types that hold themselves: the table leaves it out"])
+                f"{path}:5: Warning: I::f: types that hold themselves: the table leaves it out",
+                f"{path}:6: Warning: I::g: any: the table leaves it out"])
             with open(os.path.join(folder, "table.types"), encoding="ascii") as file:
                 self.assertEqual(file.read().splitlines()[2:], ["interface IDL:I:1.0", "operation h", "out - long"])
 
@@ -450,16 +452,16 @@ class Plain(unittest.TestCase):
         with tempfile.TemporaryDirectory(prefix="idl_partial") as folder:
             path = os.path.join(folder, "partial.idl")
             with open(path, "w", encoding="ascii") as file:
-                file.write("struct S {\n  any x; };\ntypedef sequence<S> Some;\nexception E { S x; };\n"
+                file.write("struct S {\n  wchar x; };\ntypedef sequence<S> Some;\nexception E { S x; };\n"
                            "interface I {\n  void f(in Some x);\n  void g() raises (E);\n  void h() context (\"a\");\n"
                            "  attribute wstring w;\n  void j(in I x); };\n"
                            "abstract interface A { void o(); };\nlocal interface L { enum M { n }; };\n"
                            "interface K : A { void p(in A x);\n  L::M q(); };\n")
             ran = omniidl([path], folder, "-Wbpartial,python")
             self.assertEqual([line.replace(path, "") for line in ran.stderr.splitlines()], [
-                ":2: Warning: any: it is left out", ":3: Warning: S: any: it is left out",
-                ":4: Warning: S: any: it is left out", ":6: Warning: Some: S: any: the operation is a raw one",
-                ":7: Warning: E: S: any: the operation is a raw one",
+                ":2: Warning: wchar: it is left out", ":3: Warning: S: wchar: it is left out",
+                ":4: Warning: S: wchar: it is left out", ":6: Warning: Some: S: wchar: the operation is a raw one",
+                ":7: Warning: E: S: wchar: the operation is a raw one",
                 ":8: Warning: a context clause: the operation is a raw one",
                 ":9: Warning: wstring: the operation is a raw one", ":12: Warning: a local interface: it is left out",
                 ":13: Warning: an abstract interface: the operation is a raw one"])

@@ -17,9 +17,9 @@ HUGE_VAL st_mtime ops into from new clone reader writer""".split()
 WORDS = sorted({word.lower(): word for word in (
     *keyword.kwlist, *OF_PYTHON, *OF_CPP, *idl_c_test.WORDS, *idl_rust_test.WORDS)}.values())
 BASICS = ["boolean", "char", "octet", "short", "unsigned short", "long", "unsigned long", "long long",
-          "unsigned long long", "float", "double", "string", "string<7>", "Object"]
+          "unsigned long long", "float", "double", "string", "string<7>", "Object", "any"]
 # what can't be made but as octets
-ODD = ["any", "wchar", "wstring", "wstring<4>", "Money", "long double", "CORBA::TypeCode", "Boxed", "Own", "Vague"]
+ODD = ["wchar", "wstring", "wstring<4>", "Money", "long double", "CORBA::TypeCode", "Boxed", "Own", "Vague"]
 SWITCHES = ["short", "unsigned short", "long", "unsigned long", "long long", "unsigned long long", "boolean", "char"]
 CONSTANTS = {"boolean": "TRUE", "char": "'c'", "octet": "255", "short": "-32768", "unsigned short": "65535",
              "long": "-2147483647", "unsigned long": "4294967295", "long long": "-9223372036854775807",

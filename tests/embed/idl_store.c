@@ -7,7 +7,7 @@
 #include "loop.h"
 #include "store_idl.h"
 
-enum { TK_LONG = 3 };
+enum { TK_STRING = 18 };
 static lr_idl_offer offer;
 
 static int64_t name(void *self, const lr_idl_call *call) {
@@ -33,7 +33,7 @@ static int64_t put(void *self, const lr_idl_call *call, const lr_idl_body *body)
   const Store_Missing missing = {(char[]){"below"}};
   (void)self;
   lr_get_ulong(body->octets._buffer, body->octets._length, &in, &kind);
-  if (lr_get_long(body->octets._buffer, body->octets._length, &in, &number) < 0 || kind != TK_LONG)
+  if (lr_get_long(body->octets._buffer, body->octets._length, &in, &number) < 0 || kind != TK_STRING)
     return lr_server_refuse(call->server, call->ticket, LR_EX_MARSHAL, 0);
   if (number < 0) {
     lr_put_string(room, sizeof room, &out, LR_TEXT(Store_Missing__id));
@@ -41,7 +41,7 @@ static int64_t put(void *self, const lr_idl_call *call, const lr_idl_body *body)
     return lr_server_answer_raw(call->server, call->ticket, LR_REPLY_USER_EXCEPTION, LR_ORDER_BIG, room,
                                 (size_t)out.next);
   }
-  lr_put_ulong(room, sizeof room, &out, TK_LONG);
+  lr_put_ulong(room, sizeof room, &out, TK_STRING);
   lr_put_long(room, sizeof room, &out, number + 1);
   const lr_idl_body more = {LR_ORDER_BIG, 0, {(uint32_t)out.next, room}};
   return Store_Deep_put__answer(call, &more);
@@ -79,7 +79,7 @@ static void tell(const lr_idl_raised *raised) {
 static void put_one(Store_Deep object, int32_t number) {
   uint8_t room[16];
   lr_place out = {0, 0, LR_ORDER_LITTLE, 0};
-  lr_put_ulong(room, sizeof room, &out, TK_LONG);
+  lr_put_ulong(room, sizeof room, &out, TK_STRING);
   lr_put_long(room, sizeof room, &out, number);
   const lr_idl_body body = {LR_ORDER_LITTLE, 0, {(uint32_t)out.next, room}};
   lr_idl_body result;
@@ -96,7 +96,7 @@ static void put_one(Store_Deep object, int32_t number) {
   } else {
     lr_get_ulong(result.octets._buffer, result.octets._length, &in, &kind);
     lr_get_long(result.octets._buffer, result.octets._length, &in, &number);
-    printf("%d\n", kind == TK_LONG ? number : 0);
+    printf("%d\n", kind == TK_STRING ? number : 0);
   }
   lr_idl_body__free(&result);
 }

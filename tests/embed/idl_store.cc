@@ -5,6 +5,8 @@
 
 #include "store.hh"
 
+static CORBA::ORB_ptr the_orb;
+
 class Servant : public POA_Store::Deep, public PortableServer::RefCountServantBase {
  public:
   char* name() override { return CORBA::string_dup("deep"); }
@@ -14,12 +16,10 @@ class Servant : public POA_Store::Deep, public PortableServer::RefCountServantBa
     kept->name = (std::string(tree.name) + "!").c_str();
     return kept;
   }
-  CORBA::Any* put(const CORBA::Any& value) override {
-    CORBA::Long number = 0;
-    if (!(value >>= number) || number < 0) throw Store::Missing("below");
-    auto* more = new CORBA::Any;
-    *more <<= number + 1;
-    return more;
+  CORBA::TypeCode_ptr put(CORBA::TypeCode_ptr value) override {
+    const CORBA::Long number = value->length();
+    if (number < 0) throw Store::Missing("below");
+    return the_orb->create_string_tc(number + 1);
   }
   CORBA::Long call(CORBA::Long call) override { return call + 1; }
 };
@@ -41,11 +41,10 @@ static void serve(CORBA::ORB_ptr orb) {
   sigwait(&stop, &number);
 }
 
+// (by the TypeCode of a string, whose bound it is)
 static void put(Store::Deep_ptr deep, CORBA::Long number) {
-  CORBA::Any value;
-  value <<= number;
-  CORBA::Any_var more = deep->put(value);
-  if (more >>= number) std::cout << number << std::endl;
+  CORBA::TypeCode_var value = the_orb->create_string_tc(number), more = deep->put(value);
+  std::cout << more->length() << std::endl;
 }
 
 template <class Call>
@@ -82,7 +81,7 @@ int main(int argc, char** argv) {
   sigemptyset(&stop);
   sigaddset(&stop, SIGTERM);
   pthread_sigmask(SIG_BLOCK, &stop, nullptr);
-  CORBA::ORB_var orb = CORBA::ORB_init(argc, argv);
+  CORBA::ORB_var orb = the_orb = CORBA::ORB_init(argc, argv);
   try {
     if (argc == 3)
       ask(orb, argv[2]);

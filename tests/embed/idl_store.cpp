@@ -8,7 +8,7 @@ namespace lr = lemonrudder;
 
 namespace {
 
-constexpr std::uint32_t tk_long = 3;
+constexpr std::uint32_t tk_string = 18;
 
 class Deep : public POA_Store::Deep {
  public:
@@ -22,13 +22,13 @@ class Deep : public POA_Store::Deep {
     lr::GrowingWriter out;
     const auto kind = in.get_ulong();
     const auto number = in.get_long();
-    if (!kind.ok() || *kind != tk_long || !number.ok()) return call.refuse(lr::SystemException::marshal);
+    if (!kind.ok() || *kind != tk_string || !number.ok()) return call.refuse(lr::SystemException::marshal);
     if (*number < 0) {
       out.put_string(Store::Missing::_id);
       if (const lr::Done done = Store::Missing::_write(out, {"below"}); !done) return done;
       return call.answer_raw(lr::ReplyStatus::user_exception, out.order(), out.octets());
     }
-    out.put_ulong(tk_long).put_long(*number + 1);
+    out.put_ulong(tk_string).put_long(*number + 1);
     return call.answer_raw(lr::ReplyStatus::no_exception, out.order(), out.octets());
   }
   lr::Done call(lr::idl::Asking<Deep::_ops::call>& asking, std::int32_t call) override {
@@ -56,7 +56,7 @@ void tell(const Outcome& outcome, Print print) {
 
 void put(const Store::Deep& deep, std::int32_t number) {
   lr::GrowingWriter out;
-  out.put_ulong(tk_long).put_long(number);
+  out.put_ulong(tk_string).put_long(number);
   const auto reply = deep.put(out);
   if (!reply.ok()) return;
   lr::Reader in = reply->reader();
@@ -65,7 +65,7 @@ void put(const Store::Deep& deep, std::int32_t number) {
     Store::Missing raised;
     if (id.ok() && *id == Store::Missing::_id && Store::Missing::_read(in, raised))
       std::cout << "missing " << raised.name << std::endl;
-  } else if (in.get_ulong().value_or(0) == tk_long) {
+  } else if (in.get_ulong().value_or(0) == tk_string) {
     std::cout << in.get_long().value_or(0) << std::endl;
   }
 }

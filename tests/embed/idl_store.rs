@@ -12,7 +12,7 @@ use store_idl::store::{self, deep, BoxServant, Deep, DeepServant, Missing, Named
 use tokio::net::TcpListener;
 use tokio_bank::{serve, share, Servant, Shared};
 
-const TK_LONG: u32 = 3;
+const TK_STRING: u32 = 18;
 
 struct Own;
 
@@ -40,7 +40,7 @@ impl DeepServant for Own {
     fn put(&mut self, call: Asking<'_, '_, deep::ops::Put>, body: Body) -> Result<(), Error> {
         let (mut reader, mut writer) = (body.reader(), Writer::new(Order::Little));
         let (kind, number) = (reader.ulong()?, reader.long()?);
-        if kind != TK_LONG {
+        if kind != TK_STRING {
             return call.refuse(SystemName::Marshal);
         }
         if number < 0 {
@@ -48,7 +48,7 @@ impl DeepServant for Own {
             write::<Missing>(&mut writer, &Missing { name: "below".to_string() })?;
             return call.raise(deep::ops::Put(writer.into()));
         }
-        writer.ulong(TK_LONG)?.long(number + 1)?;
+        writer.ulong(TK_STRING)?.long(number + 1)?;
         call.answer(&writer.into())
     }
 
@@ -90,11 +90,11 @@ async fn run() -> Result<(), std::boxed::Box<dyn std::error::Error>> {
 
 fn put(deep: &mut Deep<idl::Caller>, number: i32) -> Result<(), Error> {
     let mut writer = Writer::new(Order::Big);
-    writer.ulong(TK_LONG)?.long(number)?;
+    writer.ulong(TK_STRING)?.long(number)?;
     match deep.put(&writer) {
         Ok(body) => {
             let mut reader = body.reader();
-            assert_eq!(reader.ulong()?, TK_LONG);
+            assert_eq!(reader.ulong()?, TK_STRING);
             println!("{}", reader.long()?);
         }
         Err(Failure::Raised(deep::ops::Put(body))) if body.id() == Missing::ID => {

@@ -906,10 +906,10 @@ class Bank(unittest.TestCase):
 LEFT_OUT = "it is left out; by -Wbpartial an operation with it is a raw one, which is served and called by its octets"
 # an IDL text, and the lines of standard error: what stands behind the name of the file
 REFUSED = {
-    "any": ("interface I {\n  void f(in any x);\n};", [f":2: any: {LEFT_OUT}"]),
-    "any in a struct": ("struct S {\n  long a;\n  any b;\n};", [f":3: any: {LEFT_OUT}"]),
-    "any in a sequence": ("typedef sequence<any> S;", [f":1: any: {LEFT_OUT}"]),
-    "an attribute of any": ("interface I {\n  attribute any x;\n};", [f":2: any: {LEFT_OUT}"]),
+    "a wide character": ("interface I {\n  void f(in wchar x);\n};", [f":2: wchar: {LEFT_OUT}"]),
+    "a wide one in a struct": ("struct S {\n  long a;\n  wchar b;\n};", [f":3: wchar: {LEFT_OUT}"]),
+    "a wide one in a sequence": ("typedef sequence<wchar> S;", [f":1: wchar: {LEFT_OUT}"]),
+    "a wide attribute": ("interface I {\n  attribute wchar x;\n};", [f":2: wchar: {LEFT_OUT}"]),
     "wide characters": ("typedef wchar W;", [f":1: wchar: {LEFT_OUT}"]),
     "wide strings": ("interface I {\n  wstring f();\n};", [f":2: wstring: {LEFT_OUT}"]),
     "a wide constant": ('const wstring W = L"x";', [f":1: wstring: {LEFT_OUT}"]),
@@ -921,19 +921,19 @@ REFUSED = {
     "native": ("native N;", [f":1: a native type: {LEFT_OUT}"]),
     "an abstract interface": ("abstract interface I {};", [f":1: an abstract interface: {LEFT_OUT}"]),
     "a local interface": ("local interface I {};", [f":1: a local interface: {LEFT_OUT}"]),
-    "any in a union": ("union U switch (long) {\n  case 1: any b;\n};", [f":2: any: {LEFT_OUT}"]),
-    "any in an exception": ("exception E {\n  any b;\n};", [f":2: any: {LEFT_OUT}"]),
-    "any in a struct that holds itself": (
-        "struct S;\ntypedef sequence<S> Some;\nstruct S { Some inner;\n  any x; };\nstruct T { Some more; };",
-        [f":4: any: {LEFT_OUT}", f":5: Some: S: any: {LEFT_OUT}"]),
+    "a wide one in a union": ("union U switch (long) {\n  case 1: wchar b;\n};", [f":2: wchar: {LEFT_OUT}"]),
+    "a wide one in an exception": ("exception E {\n  wchar b;\n};", [f":2: wchar: {LEFT_OUT}"]),
+    "a wide one in a struct that holds itself": (
+        "struct S;\ntypedef sequence<S> Some;\nstruct S { Some inner;\n  wchar x; };\nstruct T { Some more; };",
+        [f":4: wchar: {LEFT_OUT}", f":5: Some: S: wchar: {LEFT_OUT}"]),
     "a context clause": ('interface I {\n  void f() context ("a");\n};', [f":2: a context clause: {LEFT_OUT}"]),
-    "two at once": ("interface I {\n  void f(in any x);\n  void g(in wchar x);\n};",
-                    [f":2: any: {LEFT_OUT}", f":3: wchar: {LEFT_OUT}"]),
-    "what is refused in a module": ("module M {\n  struct S {\n    any x;\n  };\n  interface I {\n"
+    "two at once": ("interface I {\n  void f(in wstring x);\n  void g(in wchar x);\n};",
+                    [f":2: wstring: {LEFT_OUT}", f":3: wchar: {LEFT_OUT}"]),
+    "what is refused in a module": ("module M {\n  struct S {\n    wchar x;\n  };\n  interface I {\n"
                                     "    void f(in S one);\n  };\n};",
-                                    [f":3: any: {LEFT_OUT}", f":6: M::S: any: {LEFT_OUT}"]),
-    "a base that is refused": ("interface I {\n  void f(in any x);\n};\ninterface J : I {};",
-                               [f":2: any: {LEFT_OUT}", f":4: I: any: {LEFT_OUT}"]),
+                                    [f":3: wchar: {LEFT_OUT}", f":6: M::S: wchar: {LEFT_OUT}"]),
+    "a base that is refused": ("interface I {\n  void f(in wchar x);\n};\ninterface J : I {};",
+                               [f":2: wchar: {LEFT_OUT}", f":4: I: wchar: {LEFT_OUT}"]),
 }
 # .. by Python alone
 ALIKE = {
@@ -972,11 +972,11 @@ class Refused(unittest.TestCase):
 
     def test_included(self) -> None:
         """What is left out in a file that is included counts only where it is used."""
-        omniidl("inner.idl", "typedef any A;\ninterface B { attribute long n; };")
+        omniidl("inner.idl", "typedef wchar A;\ninterface B { attribute long n; };")
         self.assertEqual(omniidl("outer.idl", '#include "inner.idl"\ninterface C : B {};', "types").returncode, 0)
         ran = omniidl("outer.idl", '#include "inner.idl"\ninterface C { void f(in A one); };', "types")
         self.assertEqual(ran.returncode, 1)
-        self.assertIn(f"outer.idl:2: A: any: {LEFT_OUT}", ran.stderr)
+        self.assertIn(f"outer.idl:2: A: wchar: {LEFT_OUT}", ran.stderr)
 
 
 # ---- the table of types ----

@@ -36,6 +36,12 @@ pub struct Reader<'a> {
     left: usize,
 }
 
+/// How many octets align what stands at a place, by 1, 2, 4 or 8.
+fn padding(place: u64, alignment: usize) -> usize {
+    let place = usize::try_from(place % 8).unwrap_or(0);
+    place.wrapping_neg() % alignment
+}
+
 /// How much memory may be taken for what is read of so many octets, where nothing is said.
 fn usual_limit(size: usize) -> usize {
     size.saturating_mul(16).saturating_add(65_536)
@@ -230,6 +236,20 @@ impl<'a> Reader<'a> {
         (self.octets, self.place.at)
     }
 
+    /// So many octets as they are, which are aligned as a number of so many.
+    pub(crate) fn raw(&mut self, size: usize, alignment: usize) -> Result<&'a [u8], Error> {
+        let padding = padding(self.place(), alignment);
+        let found = self.rest().get(padding..).and_then(|after| after.get(..size));
+        let found = found.ok_or(Error::Short)?;
+        self.place.next += (padding + size) as u64;
+        Ok(found)
+    }
+
+    /// The place of the next octet.
+    pub(crate) fn place(&self) -> u64 {
+        self.place.at.wrapping_add(self.place.next)
+    }
+
     /// The octets that are left.
     #[must_use]
     pub fn rest(&self) -> &'a [u8] {
@@ -417,6 +437,19 @@ impl Writer {
         self.put(data.len(), |room, size, place| unsafe {
             sys::lr_put_octets(room, size, place, data.as_ptr().cast(), data.len())
         })
+    }
+
+    /// Octets as they are, aligned as a number of so many.
+    pub(crate) fn raw(&mut self, octets: impl IntoIterator<Item = u8>, alignment: usize) {
+        let padding = padding(self.place(), alignment);
+        self.octets.resize(self.octets.len() + padding, 0);
+        self.octets.extend(octets);
+        self.place.next = self.octets.len() as u64;
+    }
+
+    /// The place of the next octet.
+    pub(crate) fn place(&self) -> u64 {
+        self.place.at.wrapping_add(self.place.next)
     }
 
     /// What was written.

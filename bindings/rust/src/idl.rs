@@ -5,6 +5,7 @@
 //! A stub calls by whatever is a [`Calls`], as a [`Caller`] is, which waits for each call on a
 //! socket. Over sockets of your own, [`call`] and [`outcome`] are its two halves.
 
+mod any;
 mod body;
 #[cfg(feature = "std")]
 mod caller;
@@ -15,6 +16,7 @@ mod reference;
 mod road;
 mod servant;
 
+pub use any::{Any, Plain};
 pub use body::Body;
 #[cfg(feature = "std")]
 pub use caller::Caller;
