@@ -390,6 +390,12 @@ class Octets(unittest.TestCase):
         self.assertRaises(TypeError, point.value)
         self.assertEqual(point.reader().read("hdB"), (1, 2.5, 3))
 
+    def test_null(self) -> None:
+        """An any that is new is null."""
+        writer = lr.Writer()
+        idl.any_.write(writer, idl.Any())
+        self.assertEqual(writer.octets, bytes(4))
+
     def test_made(self) -> None:
         """Octets that are no value of their TypeCode are refused where they are written anew."""
         for octets in (b"", b"\0\1", bytes(5)):
@@ -474,6 +480,8 @@ class Boxes(unittest.TestCase):
 
     async def rows(self, reference: str) -> None:
         async with lr.Client.of(lr.Ior.parse(reference)) as client:
+            # (an any that is new is null)
+            self.assertEqual((await client.call_raw(client.key, "_get_kept", b"")).octets, bytes(4))
             for name in KINDS:
                 for order in "><":
                     with self.subTest(name, order=order):

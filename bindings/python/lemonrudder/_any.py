@@ -8,7 +8,7 @@ from __future__ import annotations
 import array
 import typing
 from dataclasses import dataclass
-from typing import Callable, Dict, List, Optional
+from typing import Callable, Dict, List, Optional, Sequence
 
 from ._cdr import BIG, Reader, Writer
 from ._table import Order
@@ -42,9 +42,13 @@ class _Code:
 
     def __init__(self, kind: int) -> None:
         self.kind, self.number = kind, 0
-        self.parts: List[_Code] = []
-        self.labels: Dict[int, _Code] = {}
+        self.parts: Sequence[_Code] = ()
+        self.labels: Dict[int, _Code]
         self.default: Optional[_Code] = None
+
+
+# those of kinds that have no more than that
+_ALIKE = {kind: _Code(kind) for kind in (NULL, VOID, *SIZES, ANY, TYPECODE, PRINCIPAL, LONGDOUBLE, WCHAR)}
 
 
 def _resolved(code: _Code) -> _Code:
@@ -87,7 +91,10 @@ class _Cursor:
         """.. of an encapsulation, behind its octet of the order (9.3.3)."""
         size = self.number(4)
         start = self.next
-        order = self.take(size)[:1]
+        if size > self.end - start:
+            raise ValueError("a TypeCode that is cut off")
+        self.next = start + size
+        order = self.octets[start:start + min(size, 1)]
         if order not in (b"\0", b"\1"):
             raise ValueError("a TypeCode in no order")
         return _Cursor(self.octets, start + 1, self.next, start, "little" if order == b"\1" else "big")
@@ -109,7 +116,7 @@ class _Parsing:
             if found is None:
                 raise ValueError("a TypeCode by an indirection to where none begins")
             return found
-        code = self.found[start] = _Code(kind)
+        code = self.found[start] = _ALIKE.get(kind) or _Code(kind)
         if kind in CONSTRUCTED:
             self.claim(1)
             self.constructed(code, at.inner(), depth + 1)
@@ -125,25 +132,27 @@ class _Parsing:
     def constructed(self, code: _Code, at: _Cursor, depth: int) -> None:
         """What is in the encapsulation of a TypeCode. (What is behind that, as the names of an enum, has no effect.)"""
         is_list, is_struct = code.kind in (SEQUENCE, ARRAY), code.kind in (STRUCT, EXCEPT)
+        code.parts = parts = []
         if not is_list:
             at.text()
             at.text()
         if is_list or code.kind == ALIAS:
-            code.parts.append(self.code(at, depth))
+            parts.append(self.code(at, depth))
         if code.kind == UNION:
-            self.union(code, at, depth)
+            parts.append(self.union(code, at, depth))
         elif is_list or is_struct or code.kind == ENUM:
             code.number = at.number(4)
         for _ in range(code.number if is_struct else 0):
             self.claim(1)
             at.text()
-            code.parts.append(self.code(at, depth))
+            parts.append(self.code(at, depth))
 
-    def union(self, code: _Code, at: _Cursor, depth: int) -> None:
+    def union(self, code: _Code, at: _Cursor, depth: int) -> _Code:
+        """Reads the members of a union, and returns the type of its discriminator."""
         switch = _resolved(self.code(at, depth))
         if switch.kind not in LABELS:
             raise ValueError(f"a TypeCode of a union by the kind {switch.kind}")
-        code.parts.append(switch)
+        code.labels = {}
         default, count = at.number(4, True), at.number(4)
         if not -1 <= default < count:
             raise ValueError("a TypeCode of a union without its default member")
@@ -156,6 +165,7 @@ class _Parsing:
                 code.default = part
             else:
                 code.labels.setdefault(label, part)
+        return switch
 
 
 class _Walk:
