@@ -47,6 +47,13 @@ def omniidl(paths: Iterable[str], folder: str, *words: str) -> subprocess.Comple
     return subprocess.run([*command, *paths], capture_output=True, text=True, timeout=idl_test.SECONDS, check=False)
 
 
+def taken(paths: Iterable[str]) -> list[str]:
+    """The files of omniORB that the front end takes. (Two of them end it by a signal.)"""
+    words = [tool("omniidl"), *(f"-I{folder}" for folder in FOLDERS)]
+    return [path for path in paths if subprocess.run(
+        [*words, path], capture_output=True, check=False, timeout=idl_test.SECONDS).returncode == 0]
+
+
 def want_files() -> None:
     """Skips where omniORB's files are not there."""
     if not os.path.isdir(OMNIORB):
@@ -108,10 +115,7 @@ class OmniOrb(unittest.TestCase):
         cls.addClassCleanup(top.cleanup)
         cls.judge, cls.apart = (Judge(os.path.join(top.name, name)) for name in ("made", "apart"))
         paths = [path for folder in FOLDERS for path in sorted(glob.glob(os.path.join(folder, "*.idl")))]
-        words = [tool("omniidl"), *(f"-I{folder}" for folder in FOLDERS)]
-        # (two of them end the front end by a signal)
-        cls.taken = [path for path in paths if subprocess.run([*words, path], capture_output=True, check=False,
-                                                              timeout=idl_test.SECONDS).returncode == 0]
+        cls.taken = taken(paths)
         words = "-Wbpartial," + ",".join(LANGUAGES)
         twice = [path for path in cls.taken if os.path.basename(path) == TWICE]
         cls.ran = omniidl([path for path in cls.taken if path not in twice], cls.judge.folder, words)
@@ -163,11 +167,7 @@ class Random(unittest.TestCase):
         """They are taken, and compile in each language."""
         want_files()
         with tempfile.TemporaryDirectory(prefix="idl_random") as top:
-            files, folder = idl_random.random_files(seed, COUNT), os.path.join(top, "made")
-            for file in files:
-                with open(os.path.join(top, f"{file.name}.idl"), "w", encoding="ascii") as written:
-                    written.write(file.text)
-            paths = [os.path.join(top, f"{file.name}.idl") for file in files]
+            paths, folder = idl_random.written(idl_random.random_files(seed, COUNT), top), os.path.join(top, "made")
             ran = omniidl(paths, folder, "-Wbpartial," + ",".join(LANGUAGES))
             self.assertEqual(ran.returncode, 0, ran.stderr)
             judge = Judge(folder)

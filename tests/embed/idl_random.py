@@ -2,6 +2,7 @@
 from __future__ import annotations
 
 import keyword
+import os
 import random
 from dataclasses import dataclass, field
 from typing import Dict, List, Set
@@ -16,6 +17,8 @@ OF_CPP = """std errno assert call caller key in out value label one two done loo
 HUGE_VAL st_mtime ops into from new clone reader writer""".split()
 WORDS = sorted({word.lower(): word for word in (
     *keyword.kwlist, *OF_PYTHON, *OF_CPP, *idl_c_test.WORDS, *idl_rust_test.WORDS)}.values())
+# words that no language keeps for itself
+TAME = ["alpha", "betaGamma", "Delta_Epsilon", "ZETA"]
 BASICS = ["boolean", "char", "octet", "short", "unsigned short", "long", "unsigned long", "long long",
           "unsigned long long", "float", "double", "string", "string<7>", "Object", "any"]
 # what can't be made but as octets
@@ -53,10 +56,11 @@ class File:
 
 
 class Maker:
-    """Makes one file of a number, which all its names outside of modules have."""
+    """Makes one file of a number, which all its names outside of modules have. is_tame: of names that are no words of a
+    language, and without what can't be made."""
 
-    def __init__(self, dice: random.Random, number: int, others: List[File], inherited: Set[str]) -> None:
-        self.dice, self.number, self.lines = dice, number, []
+    def __init__(self, dice: random.Random, number: int, others: List[File], inherited: Set[str], is_tame: bool) -> None:
+        self.dice, self.number, self.lines, self.is_tame = dice, number, [], is_tame
         self.included = dice.sample(others, min(len(others), dice.choice([0, 0, 1, 2])))
         self.types: Dict[str, bool] = {name: can for file in self.included for name, can in file.types.items()}
         self.interfaces = [one for file in self.included for one in file.interfaces]
@@ -70,8 +74,8 @@ class Maker:
         # (nothing has the name of what it is in)
         taken = self.names.setdefault(scope, {folded(scope.rpartition("::")[2])})
         while True:
-            word = self.dice.choice(WORDS)
-            if scope == "" or len(taken) > len(WORDS) // 2:
+            word = f"{self.dice.choice(TAME)}{len(self.names)}" if self.is_tame else self.dice.choice(WORDS)
+            if self.is_tame or scope == "" or len(taken) > len(WORDS) // 2:
                 word = f"{word}_{self.number}n{len(taken)}"
             if folded(word) not in taken:
                 taken.add(folded(word))
@@ -83,7 +87,7 @@ class Maker:
 
     def type(self, can: bool = True) -> str:
         """A type that can be made, or any."""
-        if not can and self.dice.random() < 0.2:
+        if not can and self.dice.random() < 0.2 and not self.is_tame:
             return self.odd()
         known = [name for name, is_whole in self.types.items() if is_whole or not can]
         return self.dice.choice(known) if known and self.dice.random() < 0.5 else self.dice.choice(BASICS)
@@ -200,7 +204,7 @@ class Maker:
         result = "void" if is_oneway or self.dice.random() < 0.3 else self.type(can)
         some = self.dice.sample(list(self.exceptions), min(len(self.exceptions), self.dice.randrange(3)))
         raises = f" raises ({', '.join(some)})" if some and not is_oneway else ""
-        context = ' context ("a")' if self.dice.random() < 0.02 and not is_oneway else ""
+        context = ' context ("a")' if self.dice.random() < 0.02 and not is_oneway and not self.is_tame else ""
         self.lines.append(f"{'oneway ' if is_oneway else ''}{result} {name}({words}){raises}{context};")
 
     def attribute(self) -> None:
@@ -249,25 +253,36 @@ class Maker:
         before = len(self.interfaces), set(self.types), set(self.exceptions)
         self.lines += [f"#ifndef FILE_{self.number}", f"#define FILE_{self.number}",
                        *(f'#include "{file.name}.idl"' for file in self.included)]
-        self.lines += ["#include <orb.idl>", f"module odd_{self.number} {{",
-                       "native Handle; valuetype Boxed wstring; typedef fixed<5, 2> Money;",
-                       "valuetype Own { public long x; }; local interface Nearby { enum Inner { a, b }; void f(); };",
-                       "abstract interface Vague { void g(in Handle x); long h(); };", "};"]
+        self.lines += [] if self.is_tame else [
+            "#include <orb.idl>", f"module odd_{self.number} {{",
+            "native Handle; valuetype Boxed wstring; typedef fixed<5, 2> Money;",
+            "valuetype Own { public long x; }; local interface Nearby { enum Inner { a, b }; void f(); };",
+            "abstract interface Vague { void g(in Handle x); long h(); };", "};"]
         self.declare("", self.dice.randint(0, 4))
         self.lines.append(f"module m_{self.number} {{")
         self.declare(f"::m_{self.number}", self.dice.randint(3, 9))
         inner = self.word(f"::m_{self.number}")
         self.lines.append(f"module {inner} {{")
         self.declare(f"::m_{self.number}::{inner}", self.dice.randint(2, 8))
-        self.lines += ["};", "};", f"interface from_{self.number} : ::odd_{self.number}::Vague {{}};", "#endif", ""]
+        vague = [] if self.is_tame else [f"interface from_{self.number} : ::odd_{self.number}::Vague {{}};"]
+        self.lines += ["};", "};", *vague, "#endif", ""]
         return File(name, "\n".join(self.lines), {one: can for one, can in self.types.items() if one not in before[1]},
                     self.interfaces[before[0]:],
                     {one: can for one, can in self.exceptions.items() if one not in before[2]})
 
 
-def random_files(seed: int, count: int) -> List[File]:
+def random_files(seed: int, count: int, is_tame: bool = False) -> List[File]:
     """So many files, some of which include others of them."""
     dice, files, inherited = random.Random(seed), [], set()
     for number in range(count):
-        files.append(Maker(dice, number, files[-3:], inherited).made())
+        files.append(Maker(dice, number, files[-3:], inherited, is_tame).made())
     return files
+
+
+def written(files: List[File], folder: str) -> List[str]:
+    """Writes files into a folder, and answers their paths."""
+    paths = [os.path.join(folder, f"{file.name}.idl") for file in files]
+    for file, path in zip(files, paths):
+        with open(path, "w", encoding="ascii") as opened:
+            opened.write(file.text)
+    return paths

@@ -1,0 +1,467 @@
+"""Values of what a file of IDL declares, and relays: servants of all its interfaces that hand each call to another object.
+
+What a file declares is told by omniidl itself (idl_dump.py). A relay over omniORB stands on what omniidl makes for it in
+C++: a call from Python through it to Python is one to omniORB's servant, and one by omniORB's stub.
+"""
+from __future__ import annotations
+
+import asyncio
+import contextlib
+import dataclasses
+import importlib
+import json
+import keyword
+import os
+import random
+import re
+import signal
+import subprocess
+import unittest
+from collections.abc import Iterable, Iterator
+from typing import Any, Dict, List, Optional, Tuple
+
+from tests.embed import idl_types
+from tests.embed.idl_test import EMBED, ORB, lr, run
+from tests.programs import tool
+
+BASICS = {one.idl: one for one in idl_types.BASICS}
+# how deep types stand in each other, from which on sequences are empty, and how long they are
+DEPTH, LONG = 4, 3
+# what the library of omniORB has itself, by the header that declares it
+IN_OMNIORB = {"Naming": "omniORB4/Naming.hh", "CosNaming": "omniORB4/Naming.hh", "bootstrap": "omniORB4/bootstrap.hh",
+              **dict.fromkeys(("corbaidl", "orb", "ir", "boxes", "poa", "pollable", "messaging", "poa_include",
+                               "messaging_policy", "compression", "ziop"), "omniORB4/CORBA.h")}
+# .. where what it is has none of those names
+DECLARED = {"ir": "omniORB4/ir_defs.hh", "poa": "omniORB4/poa_defs.h", "bootstrap": "omniORB4/bootstrap.hh",
+            "CosNaming": "omniORB4/Naming.hh", "Naming": "omniORB4/Naming.hh"}
+INCLUDE = "/usr/include"
+SECONDS = 60
+Type = Any
+
+
+def base_of(path: str) -> str:
+    return os.path.splitext(os.path.basename(path))[0]
+
+
+def flat(scope: str) -> str:
+    """The name of a declaration in FILE_idl.py."""
+    name = scope.replace("::", "_")
+    return f"_{name}" if keyword.iskeyword(name) else name
+
+
+@dataclasses.dataclass
+class Operation:
+    """An operation of the wire."""
+
+    name: str
+    parameters: List[Tuple[str, Type]]
+    result: Optional[Type]
+    raises: List[str]
+    oneway: bool
+    context: bool
+
+    @property
+    def method(self) -> str:
+        return f"_{self.name}" if keyword.iskeyword(self.name) else self.name
+
+    @property
+    def arguments(self) -> List[Type]:
+        return [type for way, type in self.parameters if way != "out"]
+
+    @property
+    def results(self) -> List[Type]:
+        return ([] if self.result is None else [self.result]) + [type for way, type in self.parameters if way != "in"]
+
+
+@dataclasses.dataclass
+class Interface:
+    """An interface, by its names in IDL and in C++."""
+
+    name: str
+    cpp: List[str]
+    id: str
+    file: str
+    is_here: bool
+    abstract: bool
+    bases: List[str]
+    operations: List[Operation]
+
+
+def above(one: Interface, interfaces: Dict[str, Interface]) -> List[Interface]:
+    """An interface and all that it inherits from, each once."""
+    found = {one.name: one}
+    for base in one.bases:
+        found.update({each.name: each for each in above(interfaces[base], interfaces)})
+    return list(found.values())
+
+
+class Declared:
+    """What a file declares, with all that it includes."""
+
+    def __init__(self, line: str) -> None:
+        found = json.loads(line)
+        self.path, self.types, self.exceptions = found["path"], found["types"], found["exceptions"]
+        self.interfaces: Dict[str, Interface] = {}
+        for one in found["interfaces"]:
+            operations = [Operation(**each) for each in one.pop("operations")]
+            self.interfaces[one["name"]] = Interface(**one, operations=operations)
+
+    @property
+    def base(self) -> str:
+        return base_of(self.path)
+
+    @property
+    def here(self) -> List[Interface]:
+        """The interfaces of the file itself that have servants, and operations."""
+        return [one for one in self.interfaces.values() if one.is_here and not one.abstract and self.operations(one)]
+
+    def operations(self, one: Interface) -> List[Operation]:
+        return [each for base in above(one, self.interfaces) for each in base.operations]
+
+    def is_odd(self, type: Type, around: Tuple[str, ...] = ()) -> bool:
+        """Whether a type has what is made by octets alone."""
+        if isinstance(type, str) or type[0] in ("string", "reference"):
+            return False
+        if type[0] != "named":
+            return type[0] == "odd" or self.is_odd(type[1], around)
+        one, around = self.types[type[1]], (*around, type[1])
+        inner = [member for _, member in one.get("members", [])] + [case for _, case in one.get("cases", [])]
+        return type[1] not in around[:-1] and any(self.is_odd(each, around) for each in inner)
+
+    def is_raw(self, one: Operation) -> bool:
+        """Whether an operation is to be by octets."""
+        members = [type for name in one.raises for _, type in self.exceptions[name]["members"]]
+        return one.context or any(map(self.is_odd, [*one.arguments, *one.results, *members]))
+
+
+def declared(paths: Iterable[str], *folders: str) -> List[Declared]:
+    """What files declare."""
+    words = [tool("omniidl"), *(f"-I{folder}" for folder in folders), "-p", EMBED, "-bidl_dump", *paths]
+    return [Declared(line) for line in run(*words).splitlines()]
+
+
+# ---- values ----
+
+class Values:
+    """Random values of the types of a file, by the classes that are made of them."""
+
+    def __init__(self, file: Declared, dice: random.Random) -> None:
+        self.file, self.dice, self.depth = file, dice, 0
+
+    def made(self, path: str, scope: str) -> Any:
+        """What is made of a declaration."""
+        return getattr(importlib.import_module(re.sub(r"\W", "_", base_of(path)) + "_idl"), flat(scope))
+
+    def of(self, type: Type) -> Any:
+        """A value of a type."""
+        if isinstance(type, str):
+            return BASICS[type].value(self.dice, None)
+        return {"string": self.string, "sequence": self.sequence, "array": self.many, "reference": self.reference,
+                "named": self.named}[type[0]](*type[1:])
+
+    def string(self, bound: int) -> str:
+        return idl_types.text(min(bound, 30)).value(self.dice, None)
+
+    def sequence(self, type: Type, bound: int) -> Any:
+        most = 0 if self.depth >= DEPTH else min(bound or LONG, LONG)
+        return self.many(type, self.dice.randint(0, most))
+
+    def many(self, type: Type, count: int) -> Any:
+        self.depth += 1
+        values = [self.of(type) for _ in range(count)]
+        self.depth -= 1
+        return bytes(values) if type == "octet" else "".join(values) if type == "char" else values
+
+    def reference(self, id: str) -> Optional[lr.Ior]:
+        """None, or a reference to an object of this repository id."""
+        if self.dice.random() < 0.3:
+            return None
+        key = bytes(self.dice.getrandbits(8) for _ in range(self.dice.randint(1, 20)))
+        return lr.Ior.iiop(id, "127.0.0.1", self.dice.randint(1, 65535), key)
+
+    def named(self, scope: str) -> Any:
+        one = self.file.types[scope]
+        made = self.made(one["file"], scope)
+        if "enum" in one:
+            return self.dice.choice(list(made))
+        self.depth += 1
+        value = made(*(self.of(type) for _, type in one["members"])) if "members" in one else self.union(one, made)
+        self.depth -= 1
+        return value
+
+    def switched(self, one: Dict[str, Any]) -> List[Any]:
+        """Some values that may discriminate a union, its labels among them."""
+        type, labels = one["switch"], [label for labels, _ in one["cases"] for label in labels if label is not None]
+        if type == "boolean":
+            return [False, True]
+        if isinstance(type, list):
+            return list(range(self.file.types[type[1]]["enum"]))
+        # (what omniORB makes of a label '\xff' never matches: it compares an unsigned char with -1)
+        return [each for each in (*labels, *(self.of(type) for _ in range(3))) if each != "\xff"]
+
+    def union(self, one: Dict[str, Any], made: type) -> Any:
+        chosen = self.dice.choice(self.switched(one))
+        types = [type for labels, type in one["cases"] if chosen in labels]
+        types += [type for labels, type in one["cases"] if None in labels]
+        items = list(self.made(self.file.types[one["switch"][1]]["file"], one["switch"][1])) if isinstance(
+            one["switch"], list) else None
+        return made(chosen if items is None else items[chosen], self.of(types[0]) if types else None)
+
+    def exception(self, scope: str) -> Any:
+        one = self.file.exceptions[scope]
+        return self.made(one["file"], scope)(*(self.of(type) for _, type in one["members"]))
+
+
+def plain(value: Any) -> Any:
+    """A value that is equal to another one where these are the same to IDL."""
+    if isinstance(value, lr.Ior):
+        return value.type_id, value.addresses
+    if isinstance(value, lr.idl.Union):
+        return type(value), value._d, plain(value._v)
+    if dataclasses.is_dataclass(value):
+        return type(value), [plain(getattr(value, one.name)) for one in dataclasses.fields(value)]
+    return [plain(one) for one in value] if isinstance(value, (list, tuple)) else value
+
+
+# ---- relays ----
+
+@contextlib.contextmanager
+def relaying(words: List[str], targets: List[str], **options: Any) -> Iterator[List[str]]:
+    """A relay, which is given the references of the objects behind it and prints those of its own."""
+    path = f"{words[0]}.{len(os.listdir(os.path.dirname(words[0])))}"
+    with open(path, "w", encoding="ascii") as file:
+        file.writelines(f"{target}\n" for target in targets)
+    process = subprocess.Popen([words[0], path, *words[1:]], stdout=subprocess.PIPE, text=True, **options)
+    try:
+        yield [process.stdout.readline().strip() for _ in targets]
+        process.send_signal(signal.SIGTERM)
+        if process.wait(30) != 0:
+            raise AssertionError(f"{words}: status {process.returncode}")
+    finally:
+        process.kill()
+        process.wait()
+        process.stdout.close()
+
+
+RELAY = """
+#include <csignal>
+#include <fstream>
+#include <iostream>
+#include <string>
+{headers}
+
+struct Target {{ CORBA::Object_var target; virtual ~Target() {{}} }};
+static CORBA::ORB_ptr the_orb;
+static PortableServer::POA_ptr the_poa;
+static std::ifstream behind;
+
+template <class Relay> static void serve() {{
+  std::string line;
+  std::getline(behind, line);
+  Relay* const servant = new Relay;
+  servant->target = the_orb->string_to_object(line.c_str());
+  PortableServer::ObjectId_var id = the_poa->activate_object(servant);
+  CORBA::Object_var object = the_poa->id_to_reference(id);
+  CORBA::String_var text = the_orb->object_to_string(object);
+  std::cout << text << "\\n";
+}}
+
+{relays}
+
+int main(int argc, char** argv) {{
+  sigset_t stop;
+  sigemptyset(&stop);
+  sigaddset(&stop, SIGTERM);
+  pthread_sigmask(SIG_BLOCK, &stop, nullptr);
+  behind.open(argv[1]);
+  CORBA::ORB_var orb = the_orb = CORBA::ORB_init(argc, argv);
+  CORBA::Object_var root = orb->resolve_initial_references("RootPOA");
+  PortableServer::POA_var poa = the_poa = PortableServer::POA::_narrow(root);
+  PortableServer::POAManager_var manager = poa->the_POAManager();
+  manager->activate();
+{served}
+  std::cout << std::flush;
+  int number = 0;
+  sigwait(&stop, &number);
+  orb->destroy();
+}}
+"""
+
+
+def parts_of(words: str) -> List[str]:
+    """The parameters in C++ of a declaration."""
+    found, depth = [""], 0
+    for char in words:
+        depth += (char in "<(") - (char in ">)")
+        if char == "," and depth == 0:
+            found.append("")
+        else:
+            found[-1] += char
+    return [one.strip() for one in found if one.strip()]
+
+
+def relayed(line: str, other: str, names: Dict[str, str]) -> str:
+    """A method that hands its call to another object: of what is declared as purely virtual. names: of interfaces, which
+    mean their skeletons in a relay, with all that stands before them."""
+    whole = re.sub(rf"(?<![\w:])({'|'.join(names)})::", lambda found: f"{names[found[1]]}::", line)
+    result, name, words = re.fullmatch(r"\s*virtual (.*?)(\w+)\((.*)\) = 0;", whole).groups()
+    parts = [re.sub(r"\w+$", f"a{number}", one) for number, one in enumerate(parts_of(words))]
+    given = ", ".join(f"a{number}" for number in range(len(parts)))
+    return (f"  {result.strip()} {name}({', '.join(parts)}) override {{ {other}_var other = {other}::_unchecked_narrow("
+            f"target); {'' if result.strip() == 'void' else 'return '}other->{name}({given}); }}")
+
+
+class OmniOrb:
+    """A relay over omniORB for all interfaces of files, by what omniidl makes of them and of all that they include."""
+
+    def __init__(self, folder: str, files: List[Declared], *folders: str) -> None:
+        self.folder, self.files, self.folders = folder, files, folders
+        self.sources = list(dict.fromkeys(base_of(path) for file in files for path in self.included(file)))
+        self.paths = [next(path for folder in folders if os.path.exists(path := os.path.join(folder, f"{source}.idl")))
+                      for source in self.sources]
+        self.interfaces = {name: one for file in files for name, one in file.interfaces.items()}
+        os.makedirs(folder, exist_ok=True)
+        for name in {*IN_OMNIORB, "COS_sysdep"}:
+            self.write(f"{name}.hh" if name in IN_OMNIORB else f"{name}.h",
+                       f"#include <{IN_OMNIORB[name]}>\n" if name in IN_OMNIORB else "")
+
+    def write(self, name: str, text: str) -> str:
+        path = os.path.join(self.folder, name)
+        with open(path, "w", encoding="ascii") as file:
+            file.write(text)
+        return path
+
+    @staticmethod
+    def included(file: Declared) -> List[str]:
+        """The files that a file includes, as far as it names what is in them, and itself."""
+        found = [one["file"] for one in (*file.types.values(), *file.exceptions.values())]
+        return [*found, *(one.file for one in file.interfaces.values()), file.path]
+
+    def stubs(self) -> str:
+        """Has omniidl make what is not in omniORB's library, and answers what includes all of it."""
+        lines = []
+        for number, (base, path) in enumerate(zip(self.sources, self.paths)):
+            if base in IN_OMNIORB:
+                lines.append(f"#include <{IN_OMNIORB[base]}>")
+                continue
+            run(tool("omniidl"), *(f"-I{folder}" for folder in self.folders), "-bcxx", f"-C{self.folder}", path)
+            lines += [f"#define _0RL_library_version _0RL_library_version_{number}", f'#include "{base}SK.cc"',
+                      "#undef _0RL_library_version"]
+        return "\n".join(lines)
+
+    def relays(self) -> Tuple[str, Dict[str, str]]:
+        """The relays in C++, and their names by the interfaces."""
+        classes: Dict[str, str] = {}
+        lines: List[str] = []
+        bodies = {base: self.bodies(base) for base in {base_of(one.file) for one in self.interfaces.values()}}
+        for one in self.interfaces.values():
+            if one.abstract:
+                continue
+            some = bodies[base_of(one.file)]
+            at = next((at for at, body in enumerate(some) if re.match(rf" *class _impl_{one.cpp[-1]}\b", body)), None)
+            if at is None:
+                continue
+            body = some.pop(at)
+            other, spaces = "::" + "::".join(one.cpp), one.cpp[:-1]
+            name = f"Relay_{len(classes)}"
+            names = {each.cpp[-1]: "::" + "::".join(each.cpp) for each in reversed(above(one, self.interfaces))}
+            bases = [f"public virtual {classes[base]}" for base in one.bases if base in classes]
+            skeleton = f"public virtual ::POA_{'::'.join(one.cpp)}"
+            lines += [*(f"namespace {space} {{" for space in spaces),
+                      f"class {name} : {', '.join([skeleton, *bases, 'public virtual ::Target'])} {{", " public:",
+                      *(relayed(line, other, names) for line in re.findall(r"^ *virtual [^;]* = 0;", body, re.M)), "};",
+                      "}" * len(spaces)]
+            classes[one.name] = "::" + "::".join([*spaces, name])
+        return "\n".join(lines), classes
+
+    def bodies(self, base: str) -> List[str]:
+        """The classes with purely virtual methods in the header of a file."""
+        path = os.path.join(INCLUDE, DECLARED[base]) if base in DECLARED else os.path.join(self.folder, f"{base}.hh")
+        with open(path, encoding="ascii") as file:
+            return re.findall(r"^ *class _impl_\w+ ?:.*?^ *\};", file.read(), re.M | re.S)
+
+    def program(self) -> str:
+        """The relay, compiled."""
+        headers = self.stubs()
+        relays, classes = self.relays()
+        served = "\n".join(f"  serve<{classes[one.name]}>();" for file in self.files for one in file.here)
+        source = self.write("relay.cc", RELAY.format(headers=headers, relays=relays, served=served))
+        program = os.path.join(self.folder, "relay_omniorb")
+        run(tool("g++"), "-w", "-O0", "-DENABLE_CLIENT_IR_SUPPORT", f"-I{self.folder}", source, *ORB, "-o", program)
+        return program
+
+
+# ---- the exchange ----
+
+class Answer:
+    """What servants in Python answer next, and what they were asked."""
+
+    def __init__(self) -> None:
+        self.due: Any = None
+        self.asked: Any = None
+        self.was_asked = asyncio.Event()
+
+    def servant(self, values: Values, one: Interface) -> Any:
+        """A servant that answers each operation of an interface so."""
+
+        def method(own: Any, *given: Any) -> Any:
+            self.asked = given
+            self.was_asked.set()
+            if isinstance(self.due, Exception):
+                raise self.due
+            return self.due
+
+        base = values.made(one.file, f"_POA_{flat(one.name)}")
+        return type("Servant", (base,), {each.method: method for each in values.file.operations(one)})()
+
+
+class Exchange:
+    """Calls of all operations with types of all interfaces, through relays to servants in Python: each with random
+    arguments, results and exceptions, which are the same at the other end. calls: how many there were."""
+
+    def __init__(self, test: unittest.TestCase, files: List[Declared], seed: int) -> None:
+        self.test, self.answer, self.calls, self.operations = test, Answer(), 0, 0
+        self.values = [Values(file, random.Random(f"{seed} {file.base}")) for file in files]
+
+    async def through(self, *relays: List[str]) -> None:
+        """Makes all calls through relays, the last of which is called."""
+        served = [(values, one) for values in self.values for one in values.file.here]
+        async with lr.Server() as server:
+            for number, (values, one) in enumerate(served):
+                lr.idl.add(server, f"object {number}", self.answer.servant(values, one))
+            await server.listen("127.0.0.1")
+            found = [str(server.reference(f"object {number}")) for number in range(len(served))]
+            with contextlib.ExitStack() as stack:
+                for words in relays:
+                    found = stack.enter_context(relaying(words, found))
+                for (values, one), reference in zip(served, found):
+                    async with values.made(one.file, one.name)._of(reference) as stub:
+                        for operation in values.file.operations(one):
+                            with self.test.subTest(f"{values.file.base}: {one.name}::{operation.name}"):
+                                await self.operation(values, stub, operation)
+
+    async def operation(self, values: Values, stub: Any, operation: Operation) -> None:
+        """Calls an operation, which is one with types where these can be made."""
+        made = stub._interface.operations[operation.name]
+        if values.file.is_raw(operation):
+            return
+        self.test.assertNotIsInstance(made, lr.idl.OfOctets)
+        self.operations += 1
+        await self.call(values, stub, operation, None)
+        for name in operation.raises:
+            await self.call(values, stub, operation, name)
+
+    async def call(self, values: Values, stub: Any, operation: Operation, raised: Optional[str]) -> None:
+        """A call that ends by results, or by an exception."""
+        given = [values.of(type) for type in operation.arguments]
+        results = tuple(values.of(type) for type in operation.results)
+        self.answer.due = values.exception(raised) if raised else results[0] if len(results) == 1 else results or None
+        self.answer.was_asked.clear()
+        self.calls += 1
+        try:
+            came = await getattr(stub, operation.method)(*given)
+        except lr.idl.UserException as exception:
+            came = exception
+        await asyncio.wait_for(self.answer.was_asked.wait(), SECONDS)
+        self.test.assertEqual(plain(self.answer.asked), plain(given))
+        self.test.assertEqual(plain(came), plain(self.answer.due))

@@ -1,0 +1,107 @@
+"""Tests that what is made of IDL as systems have it speaks to omniORB: operations of omniORB's own files, and of random ones.
+
+Each operation with types is called with random arguments, results and exceptions through a relay over omniORB, which
+stands on what omniidl makes for it: by omniORB's stubs to our servants, and by ours to omniORB's. A seed chooses some of
+omniORB's files; with ALL_FILES=1 in the environment it is all of them.
+"""
+from __future__ import annotations
+
+import asyncio
+import atexit
+import functools
+import glob
+import os
+import random
+import sys
+import tempfile
+import unittest
+from typing import List
+
+from tests import base
+from tests.embed import idl_files_test, idl_random
+from tests.embed.idl_exchange import Declared, Exchange, OmniOrb, declared
+from tests.embed.idl_files_test import ENDPOINT, FOLDERS, TWICE, omniidl, want_files
+from tests.programs import needs
+
+# how many of omniORB's files a seed chooses, and how many random ones it makes
+FEW, COUNT = 12, 6
+# omniORB has the interfaces of this one as local objects
+LOCAL = "poa"
+# what all files have: operations with types, and calls of them by results and by each exception
+OPERATIONS, CALLS = 2224, 3209
+
+
+class Made:
+    """What is made of files, in Python and over omniORB."""
+
+    def __init__(self, files: List[Declared], *folders: str) -> None:
+        top = tempfile.TemporaryDirectory(prefix="idl_exchange")
+        atexit.register(top.cleanup)
+        self.files, self.folder = files, top.name
+        self.omniorb = OmniOrb(os.path.join(top.name, "omniorb"), files, *folders)
+        python = os.path.join(top.name, "python")
+        ran = omniidl(self.omniorb.paths, python, "-Wbpartial,python")
+        if ran.returncode != 0:
+            raise AssertionError(ran.stderr)
+        sys.path.insert(0, python)
+
+    @functools.cached_property
+    def relay(self) -> List[str]:
+        """The words that run the relay over omniORB."""
+        return [self.omniorb.program(), *ENDPOINT]
+
+
+@functools.lru_cache(maxsize=None)
+def with_operations() -> List[Declared]:
+    """Those of omniORB's files that the front end takes and that have operations of remote objects."""
+    want_files()
+    paths = [path for folder in FOLDERS for path in sorted(glob.glob(os.path.join(folder, "*.idl")))]
+    files = declared(idl_files_test.taken(paths), *FOLDERS)
+    return [file for file in files if file.here and file.base != LOCAL]
+
+
+@functools.lru_cache(maxsize=None)
+def of_omniorb(seed: int) -> List[Made]:
+    """Files of omniORB; what another one has too is made apart."""
+    files = with_operations()
+    some = files if os.environ.get("ALL_FILES") else random.Random(seed).sample(files, FEW)
+    parts = [[file for file in some if (f"{file.base}.idl" == TWICE) == is_twice] for is_twice in (False, True)]
+    return [Made(part, *FOLDERS) for part in parts if part]
+
+
+@functools.lru_cache(maxsize=None)
+def of_random(seed: int) -> List[Made]:
+    """Random files."""
+    top = tempfile.TemporaryDirectory(prefix="idl_random")
+    atexit.register(top.cleanup)
+    paths = idl_random.written(idl_random.random_files(seed, COUNT, True), top.name)
+    return [Made(declared(paths, top.name), top.name)]
+
+
+@needs("omniidl", "g++")
+class Python(unittest.TestCase):
+    """Servants and stubs in Python."""
+
+    def exchanged(self, made: List[Made], seed: int) -> List[Exchange]:
+        found = []
+        for one in made:
+            found.append(Exchange(self, one.files, seed))
+            asyncio.run(found[-1].through(one.relay))
+        return found
+
+    @base.each_seed(1, 1)
+    def test_files(self, seed: int) -> None:
+        """Operations of omniORB's files."""
+        found = self.exchanged(of_omniorb(seed), seed)
+        if os.environ.get("ALL_FILES"):
+            counts = sum(one.operations for one in found), sum(one.calls for one in found)
+            self.assertEqual(counts, (OPERATIONS, CALLS))
+
+    @base.each_seed(1, 1)
+    def test_random(self, seed: int) -> None:
+        """Operations of random files."""
+        self.exchanged(of_random(seed), seed)
+
+
+if __name__ == "__main__":
+    unittest.main()
