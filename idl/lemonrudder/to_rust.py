@@ -546,7 +546,7 @@ def offered(one: model.Interface, at: At) -> List[str]:
         arms += block(f'b"{operation.name}" => _idl::perform::<{ops}>(request, |_call, {tuple_of(names)}| {{',
                       [f"{method}({', '.join(['_servant', '_call', *names])})"])
         arms[-1] = "}),"
-    refuse = "request.refuse(_lr::SystemName::BadOperation, 0)"
+    refuse = "_idl::otherwise(request)"
     return ["/// Its repository id, and those of the interfaces from which it inherits.", "#[must_use]",
             *block(f"pub const fn ids() -> [&'static str; {1 + len(one.all_bases)}] {{", [f"[{ids}]"]), "",
             "/// Adds an object of it to a catalogue.", "///", "/// # Errors", "///",

@@ -77,15 +77,19 @@ fn main() -> Result<(), Box<dyn std::error::Error>> {
     let mut doors = Doors { port, last: 0, counts: HashMap::new() };
     println!("{}", Ior::iiop(market::ids()[0], Version::V12, "127.0.0.1", port, b"market")?.to_text()?);
     let mut room = [0; 4096];
-    let (mut stream, _) = listener.accept()?;
-    server.connect(1)?;
-    loop {
-        let size = stream.read(&mut room)?;
-        if size == 0 {
-            return Ok(());
+    for connection in 1.. {
+        let (mut stream, _) = listener.accept()?;
+        server.connect(connection)?;
+        loop {
+            let size = stream.read(&mut room)?;
+            if size == 0 {
+                break;
+            }
+            let serve = |request: &mut Request<'_>| perform(&mut doors, request);
+            server.serve_all(connection, Moment::now(), &room[..size], serve)?;
+            stream.write_all(&server.take_output(connection))?;
         }
-        let serve = |request: &mut Request<'_>| perform(&mut doors, request);
-        server.serve(1, Moment::now(), &room[..size], serve)?;
-        stream.write_all(&server.take_output(1))?;
+        server.lost(connection)?;
     }
+    Ok(())
 }

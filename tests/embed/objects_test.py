@@ -110,11 +110,15 @@ async def came_and_went(test: unittest.TestCase, client: lr.Client, is_of_family
     key = ior.addresses[0].key
     test.assertEqual([await client.call(key, "more", results="l") for _ in range(2)], [1, 2])
     test.assertTrue(await client.call(key, "_is_a", "s", ("IDL:Session:1.0",), "?"))
+    test.assertFalse(await client.call(key, "_non_existent", results="?"))
     test.assertEqual(await client.call(key, "bye", results="l"), 2)
+    calls = {"more": ("", (), "l"), "_is_a": ("s", ("IDL:Session:1.0",), "?"), "_non_existent": ("", (), "?")}
     for gone in (key, key + b"0"):
-        with test.assertRaises(lr.SystemException) as caught:
-            test.fail(await client.call(gone, "more", results="l"))
-        test.assertEqual((caught.exception.name, caught.exception.completed), ("OBJECT_NOT_EXIST", lr.Completed.NO))
+        for name, (types, values, results) in calls.items():
+            with test.subTest(name), test.assertRaises(lr.SystemException) as caught:
+                test.fail(await client.call(gone, name, types, values, results))
+            test.assertEqual((caught.exception.name, caught.exception.completed), ("OBJECT_NOT_EXIST", lr.Completed.NO))
+        test.assertTrue(await made("market", MARKET).Session(client, gone)._non_existent())
 
 
 @needs("g++", "cargo", "cargo-clippy", "omniidl")
@@ -127,9 +131,13 @@ class ByIdl(unittest.TestCase):
         async def main() -> None:
             process = await asyncio.create_subprocess_exec(*program(), stdout=asyncio.subprocess.PIPE)
             assert process.stdout is not None
-            async with lr.Client.of((await process.stdout.readline()).decode().strip()) as client:
+            reference = (await process.stdout.readline()).decode().strip()
+            async with lr.Client.of(reference) as client:
                 for is_of_family in (False, True, False):
                     await came_and_went(self, client, is_of_family)
+            # (a LocateRequest is answered of a family as a whole)
+            for key, status in ((b"one/1", lr.LocateStatus.UNKNOWN_OBJECT), (b"family/2", lr.LocateStatus.OBJECT_HERE)):
+                self.assertEqual(located(lr.Ior.parse(reference).addresses[0].port, key), status)
             if process.returncode is None:
                 process.terminate()
             await process.wait()

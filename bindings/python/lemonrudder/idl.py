@@ -875,8 +875,13 @@ class Stub:
         return bool(await self._client.call(self._key, "_is_a", "s", (id,), "?", timeout=self._timeout))
 
     async def _non_existent(self) -> bool:
-        """Whether its server says that there is no such object."""
-        return bool(await self._client.call(self._key, "_non_existent", "", (), "?", timeout=self._timeout))
+        """Whether its server says that there is no such object, be it by OBJECT_NOT_EXIST."""
+        try:
+            return bool(await self._client.call(self._key, "_non_existent", "", (), "?", timeout=self._timeout))
+        except SystemException as raised:
+            if raised.name != "OBJECT_NOT_EXIST":
+                raise
+            return True
 
     async def _narrow(self, wanted: Type[S]) -> Optional[S]:
         """A stub of another interface for the same object; None where its server says that it is none of that."""

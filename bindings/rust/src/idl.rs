@@ -26,7 +26,7 @@ pub use codec::{
 };
 pub use object::{call, outcome, Calls, Failure, Object, SystemRaised};
 pub use reference::Reference;
-pub use servant::{offer, perform, Asking, Parked};
+pub use servant::{offer, otherwise, perform, Asking, Parked};
 
 #[doc(hidden)]
 pub use alloc::{string::String, vec::Vec};

@@ -327,6 +327,33 @@ impl Server {
         connection: u64,
         moment: Moment,
         octets: &[u8],
+        perform: impl FnMut(&mut Request<'_>) -> Result<(), Error>,
+    ) -> Result<usize, Error> {
+        self.serve_each(connection, moment, octets, true, perform)
+    }
+
+    /// The same, but that `perform` is given `_is_a` and `_non_existent` too, which
+    /// [`Request::identify`] answers: so it may refuse them of an object that its family lacks.
+    ///
+    /// # Errors
+    ///
+    /// As of [`serve`](Server::serve).
+    pub fn serve_all(
+        &mut self,
+        connection: u64,
+        moment: Moment,
+        octets: &[u8],
+        perform: impl FnMut(&mut Request<'_>) -> Result<(), Error>,
+    ) -> Result<usize, Error> {
+        self.serve_each(connection, moment, octets, false, perform)
+    }
+
+    fn serve_each(
+        &mut self,
+        connection: u64,
+        moment: Moment,
+        octets: &[u8],
+        identifies: bool,
         mut perform: impl FnMut(&mut Request<'_>) -> Result<(), Error>,
     ) -> Result<usize, Error> {
         let mut taken = 0;
@@ -340,7 +367,7 @@ impl Server {
                 }
                 continue; // (up to a repeat of a parked request, or until enough is due)
             };
-            match self.identify_or_refuse(&said) {
+            match self.identify_or_refuse(&said, identifies) {
                 Ok(true) => {}
                 Ok(false) => self.perform(&mut perform)?,
                 Err(error) => {
@@ -353,10 +380,10 @@ impl Server {
 
     /// Answers the request that waits where no servant does: of an object that leaves, or of what
     /// each object has.
-    fn identify_or_refuse(&mut self, said: &lr_request) -> Result<bool, Error> {
+    fn identify_or_refuse(&mut self, said: &lr_request, identifies: bool) -> Result<bool, Error> {
         let ticket = Ticket(said.ticket);
         if !self.leaves(ticket)? {
-            return self.identify(ticket);
+            return if identifies { self.identify(ticket) } else { Ok(false) };
         }
         if self.is_asking_first && said.has_client != 0 {
             return Ok(false);
@@ -854,6 +881,16 @@ impl Request<'_> {
     /// connection is gone; it is asked again when it comes again.
     pub fn give_up(&mut self) {
         sure(sys::lr_server_give_up(&mut self.server.slot, self.said.ticket));
+    }
+
+    /// Answers `_is_a` and `_non_existent`, as [`Server::identify`] does: of what
+    /// [`Server::serve_all`] gives.
+    ///
+    /// # Errors
+    ///
+    /// As of [`Server::answer`].
+    pub fn identify(&mut self) -> Result<bool, Error> {
+        self.server.identify(self.ticket())
     }
 
     /// Refuses it for now, as [`Server::refuse`] does.

@@ -35,6 +35,19 @@ pub fn perform<'r, 's, O: Operation>(
     }
 }
 
+/// Has a request performed for an operation that no interface has: `_is_a` and `_non_existent`,
+/// where [`Server::serve_all`] gives them, or it is refused by `BAD_OPERATION`.
+///
+/// # Errors
+///
+/// Those of [`Request::identify`] and [`Request::refuse`].
+pub fn otherwise(request: &mut Request<'_>) -> Result<(), Error> {
+    if request.identify()? {
+        return Ok(());
+    }
+    request.refuse(SystemName::BadOperation, 0)
+}
+
 /// Answers by results. Those that are none of their types answer `INTERNAL`, `Completed::Maybe`.
 fn answer<O: Operation>(
     server: &mut Server,
