@@ -52,6 +52,12 @@ impl Body {
     pub fn at(place: u64, octets: Vec<u8>) -> Body {
         Body { octets, place, cuts: Cuts::default() }
     }
+
+    /// What it takes of memory.
+    #[must_use]
+    pub fn size(&self) -> usize {
+        self.octets.len() + self.cuts.size()
+    }
 }
 
 /// A Request of this id: its octets up to its body, and that; or all of them, and none, where it has

@@ -6,6 +6,9 @@
 
 use std::mem;
 
+/// What each takes in memory, and as octets.
+const SIZE: usize = mem::size_of::<usize>();
+const OCTETS: usize = 4;
 const HEADER: usize = 12;
 const FRAGMENT: u8 = 7;
 const MORE: u8 = 2;
@@ -44,6 +47,27 @@ impl Cuts {
     #[must_use]
     pub fn are_most(&self) -> bool {
         self.0.len() >= MOST
+    }
+
+    /// What they take of memory.
+    #[must_use]
+    pub fn size(&self) -> usize {
+        self.0.len() * SIZE
+    }
+
+    /// As octets: each is four in big order. None where it was not cut.
+    #[must_use]
+    pub fn octets(&self) -> Option<Vec<u8>> {
+        let number = |at: &usize| u32::try_from(*at).unwrap_or(u32::MAX).to_be_bytes();
+        (!self.are_none()).then(|| self.0.iter().flat_map(number).collect())
+    }
+
+    /// Those that octets are, where there are any.
+    #[must_use]
+    pub fn read(octets: Option<&[u8]>) -> Cuts {
+        let number = |four: &[u8]| four.try_into().map(u32::from_be_bytes).ok();
+        let numbers = octets.unwrap_or_default().chunks(OCTETS).filter_map(number);
+        Cuts(numbers.filter_map(|at| usize::try_from(at).ok()).collect())
     }
 
     /// Those of the body that begins at a place of a message. (Others are not known to mean anything.)
@@ -113,6 +137,19 @@ mod tests {
     fn those_of_a_body_are_counted_from_it() {
         assert_eq!(cuts(&[20, 28, 44, 44, 60]).behind(28), cuts(&[0, 16, 32]));
         assert_eq!(cuts(&[20]).behind(28), Cuts::default());
+    }
+
+    #[test]
+    fn they_are_octets() {
+        for (at, octets) in [
+            (&[][..], None),
+            (&[0], Some(&b"\0\0\0\0"[..])),
+            (&[3, 260, 1 << 24], Some(b"\0\0\0\x03\0\0\x01\x04\x01\0\0\0")),
+        ] {
+            assert_eq!(cuts(at).octets().as_deref(), octets, "{at:?}");
+            assert_eq!(Cuts::read(octets), cuts(at));
+        }
+        assert_eq!(Cuts::read(Some(b"\0\0\0\x05\0\0")), cuts(&[5]));
     }
 
     #[test]

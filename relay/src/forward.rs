@@ -133,8 +133,8 @@ pub fn reply_of(message: &mut Message<'_>) -> Reply {
 
 impl From<Outcome> for Answer {
     fn from(outcome: Outcome) -> Answer {
-        let Outcome { status, order, place, body } = outcome;
-        let body = Body::at(place.into(), body);
+        let Outcome { status, order, place, body, cuts } = outcome;
+        let body = Body { octets: body, place: place.into(), cuts };
         Answer { status, order, contexts: Contexts::new(), body }
     }
 }
@@ -150,7 +150,7 @@ impl Answer {
     #[must_use]
     pub fn nothing() -> Answer {
         let status = Status::NoException.number();
-        Outcome { status, order: Order::Big, place: 0, body: Vec::new() }.into()
+        Outcome::whole(status, Order::Big, Vec::new()).into()
     }
 
     /// Whether it leads elsewhere, as an answer by which nothing is performed.
@@ -164,8 +164,8 @@ impl Answer {
     /// aligned to more than 4.
     #[must_use]
     pub fn outcome(&self) -> Outcome {
-        let (place, body) = (self.place(), self.body.octets.clone());
-        Outcome { status: self.status, order: self.order, place, body }
+        let (place, Body { octets, cuts, .. }) = (self.place(), self.body.clone());
+        Outcome { status: self.status, order: self.order, place, body: octets, cuts }
     }
 
     /// The place of the body of that outcome.
@@ -179,7 +179,7 @@ impl Answer {
     /// Whether an outcome is its own.
     #[must_use]
     pub fn is_kept_as(&self, outcome: &Outcome) -> bool {
-        let Outcome { status, order, place, body } = outcome;
+        let Outcome { status, order, place, body, .. } = outcome;
         let is_same = *body == self.body.octets && *place == self.place();
         is_same && (*status, *order) == (self.status, self.order)
     }
@@ -347,7 +347,7 @@ mod tests {
         {
             let outcome = answer(status, &vec![1; size], at).outcome();
             let body = vec![1; size];
-            assert_eq!(outcome, Outcome { status, order: Order::Little, place, body });
+            assert_eq!(outcome, Outcome { place, ..Outcome::whole(status, Order::Little, body) });
             assert_eq!(Answer::from(outcome).body.place, u64::from(place));
         }
     }

@@ -187,7 +187,7 @@ impl Frames {
     pub fn pending(&self) -> usize {
         let last = if self.left > 0 { self.whole } else { 0 };
         let all = last + self.partial.values().chain(self.others.values()).sum::<usize>();
-        self.held.len() + all.saturating_sub(self.left)
+        self.held.len() + self.coming.size() + all.saturating_sub(self.left)
     }
 
     /// Forgets a message that is not whole, whose client sends no more of it.

@@ -620,8 +620,7 @@ impl<R: Role> Talk<R> {
         let place = if is_by_client { None } else { self.peer.share.place().await };
         let cancelled = request.ft.is_none().then(|| Cancelled::of(&self.cancels, id));
         let (version, wish) = (request.head.version, request.head.wish);
-        let held =
-            self.peer.account.hold(REQUEST + request.head.key.len() + request.body.octets.len());
+        let held = self.peer.account.hold(REQUEST + request.head.key.len() + request.body.size());
         let asked = Asked { peer: self.peer.clone(), request, held, cancelled };
         let due = self.due.clone();
         self.front.performers.perform(Job { asked, version, wish, id, due, place, is_one });

@@ -235,7 +235,7 @@ impl Guard {
         };
         point("received");
         // (its outcome is held beside it, until that is kept)
-        asked.held.add(answer.body.octets.len());
+        asked.held.add(answer.body.size());
         let answer = self.finishes(&ft.key, answer).await;
         point("finished");
         answer.ok_or(Refusal::Forgotten)
@@ -350,7 +350,7 @@ impl Guard {
         };
         match ended {
             Some(Ok(Some(reply))) => {
-                asked.held.add(reply.body.octets.len());
+                asked.held.add(reply.body.size());
                 self.told(reply, asked).await
             }
             Some(Ok(None)) => Sent::Done(Answer::nothing()),

@@ -115,7 +115,7 @@ impl Refusal {
 /// The client is to give the object's key (CORBA 3.3 Part 2, 9.4.3.1).
 fn by_key() -> Answer {
     let status = Status::NeedsAddressingMode.number();
-    Outcome { status, order: Order::Big, place: 0, body: vec![0, 0] }.into()
+    Outcome::whole(status, Order::Big, vec![0, 0]).into()
 }
 
 /// What the fault of a stream is called.

@@ -2,20 +2,26 @@
 from __future__ import annotations
 
 import contextlib
+import os
 import socket
+import tempfile
 import threading
 import unittest
+from collections.abc import Iterator
 
 from tests import base, giop
+from tests.embed.durable import Postgres
 from tests.giop import BIG, LITTLE, MORE
-from tests.giop_peers import Peer
+from tests.giop_peers import Peer, request, until, want
 from tests.relay import relays
+from tests.relay.operation_test import Counters
 from tests.relay.relays import Relay
 
 # what stands before the body of these requests, at most
 HEAD = 200
 MEBIBYTES = 16 << 20
 ROLES = ("guard", "retry")
+STORES = ("memory", "SQLite", "PostgreSQL")
 
 
 def cut(octets: bytes, *places: int) -> list[bytes]:
@@ -97,10 +103,10 @@ class Fragments(unittest.TestCase):
         relays.program()
 
     @contextlib.contextmanager
-    def relay(self, role):
+    def relay(self, role, store="memory", counted=()):
         with Echo() as server:
-            words = ["--store", "memory", "--server"] if role == "guard" else ["--guard"]
-            with Relay(role, *words, f"127.0.0.1:{server.port}", "--connections", "1") as relay:
+            words = ["--store", store, "--server"] if role == "guard" else ["--guard"]
+            with Relay(role, *words, f"127.0.0.1:{server.port}", "--connections", "1", *counted) as relay:
                 relay.begin()
                 yield server, relay
 
@@ -136,6 +142,51 @@ class Fragments(unittest.TestCase):
         with self.relay(role) as (server, relay):
             octets = giop.request(7, b"k", "echo", bytes(MEBIBYTES - HEAD), minor=1)
             self.passes(server, relay, octets, (len(octets),))
+
+    @contextlib.contextmanager
+    def store(self, kind: str) -> Iterator[str]:
+        with contextlib.ExitStack() as stack:
+            if kind == "PostgreSQL":
+                postgres = Postgres()
+                stack.callback(postgres.close)
+                yield postgres.address
+            else:
+                folder = stack.enter_context(tempfile.TemporaryDirectory())
+                yield os.path.join(folder, "kept") if kind == "SQLite" else kind
+
+    @base.each(lambda: [(kind, kind) for kind in STORES])
+    def test_a_repeat_is_cut_where_its_first_was(self, kind):
+        """By what the store has of it, also once its guard was begun anew; in other versions it is whole."""
+        counters = Counters()
+        with self.store(kind) as store, self.relay("guard", store, counters.words) as (server, guard):
+            until(lambda: counters.asked("/ready")[0] == 200, "it is ready")
+            asked, wanted = {}, {}
+            for number, (size, order, behind) in enumerate((
+                    (3, BIG, [0]), (9000, LITTLE, [9000]), (9000, BIG, [8999, 9000]), (70_000, LITTLE, [0, 1, 4096, 69_995]),
+                    (20_000, BIG, list(range(5, 15_000))), (20_000, BIG, []))):
+                body = bytes(range(250)) * (size // 250) if size >= 250 else bytes(range(size))
+                place = len(giop.reply(1, body, minor=1, order=order)) - size
+                server.places = tuple(place + at for at in behind)
+                asked[number] = request(1, b"k", "echo", body, number=number, minor=1, order=order)
+                wanted[number] = (body, self.told(guard, asked[number]))
+                want([frame[12:] for frame in wanted[number][1][1:]] == [frame[12:] for frame in server.sent[1:]], True)
+            for life in range(2 if kind != "memory" else 1):
+                if life > 0:
+                    guard.end()
+                    guard.begin()
+                    until(lambda: counters.asked("/ready")[0] == 200, "it is ready")
+                for number, (body, frames) in wanted.items():
+                    with self.subTest(number=number):
+                        want(b"".join(self.told(guard, asked[number])), b"".join(frames))
+                        other = request(1, b"k", "echo", body, number=number)
+                        self.assertEqual(len(self.told(guard, other)), 1)
+            self.assertEqual(len(server.came), len(asked))
+
+    def told(self, guard: Relay, octets: bytes) -> list[bytes]:
+        """The frames by which a request is answered."""
+        with Peer(guard.port) as peer:
+            peer.tell(octets)
+            return frames_of(peer.socket)
 
 
 if __name__ == "__main__":

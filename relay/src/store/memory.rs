@@ -149,7 +149,7 @@ impl Memory {
             return Ok(outcome.clone());
         }
         if let Some(held) = &mut row.held {
-            held.add(outcome.body.len());
+            held.add(outcome.body.len() + outcome.cuts.size());
         }
         row.state = State::Done(outcome.clone());
         Ok(outcome)

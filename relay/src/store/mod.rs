@@ -17,6 +17,7 @@ mod tables;
 mod tests;
 mod writer;
 
+use crate::cuts::Cuts;
 use crate::mark::Mark;
 use crate::memory::Account;
 use memory::Memory;
@@ -39,13 +40,14 @@ pub struct Key {
 }
 
 /// What was answered: the status of the Reply by its number, the order of the body's octets, and
-/// the body, with the place of its first octet modulo 8.
+/// the body, with the place of its first octet modulo 8, and where it was cut in a message of 1.1.
 #[derive(Clone, PartialEq, Eq, Debug)]
 pub struct Outcome {
     pub status: u32,
     pub order: Order,
     pub place: u8,
     pub body: Vec<u8>,
+    pub cuts: Cuts,
 }
 
 /// What a request finds when it is begun.
@@ -84,8 +86,13 @@ impl Outcome {
         let mut body = Writer::new(Order::Big);
         let written = body.string(id).and_then(|body| body.ulong(minor)?.ulong(completed.number()));
         assert!(written.is_ok(), "no memory for {name}");
-        let status = Status::SystemException.number();
-        Outcome { status, order: Order::Big, place: 0, body: body.into_octets() }
+        Outcome::whole(Status::SystemException.number(), Order::Big, body.into_octets())
+    }
+
+    /// One whose body was not cut, and stands at the place 0.
+    #[must_use]
+    pub fn whole(status: u32, order: Order, body: Vec<u8>) -> Outcome {
+        Outcome { status, order, place: 0, body, cuts: Cuts::default() }
     }
 
     /// What is told of a request that was begun by a guard that lives no more: nobody can know

@@ -8,6 +8,7 @@
 use super::secured::Secured;
 use super::writer::{Database, Done, Step};
 use super::{Begun, Error, Key, Outcome};
+use crate::cuts::Cuts;
 use crate::mark::{random, Mark, Random};
 use futures_util::future::{poll_fn, try_join_all};
 use lemonrudder::Order;
@@ -22,7 +23,7 @@ use tokio_postgres::{AsyncMessage, Client, Config, Connection, NoTls, Row, Socke
 
 type Failure = tokio_postgres::Error;
 /// What a statement is given that has a request done.
-type Values<'a> = [&'a (dyn ToSql + Sync); 7];
+type Values<'a> = [&'a (dyn ToSql + Sync); 8];
 
 const VERSION: i32 = 2;
 /// How long it takes at most to connect.
@@ -49,13 +50,18 @@ const TABLES: &str = "
     CREATE TABLE IF NOT EXISTS lemonrudder.outcome (
         client bytea NOT NULL, number integer NOT NULL, expiration bytea NOT NULL,
         guard bigint NOT NULL, waited boolean NOT NULL DEFAULT false,
-        status bigint, little boolean, place smallint, body bytea, PRIMARY KEY (client, number));
+        status bigint, little boolean, place smallint, body bytea, cuts bytea,
+        PRIMARY KEY (client, number));
     CREATE INDEX IF NOT EXISTS outcome_by_expiration ON lemonrudder.outcome (expiration);
     CREATE TABLE IF NOT EXISTS lemonrudder.mark (version integer NOT NULL, least bytea NOT NULL);
     INSERT INTO lemonrudder.mark SELECT 2, '\\x0000000000000000'
         WHERE NOT EXISTS (SELECT 1 FROM lemonrudder.mark);
     COMMIT;
 ";
+/// A program that kept no cuts made no place for them, and reads tables which have one.
+const HAS_CUTS: &str = "SELECT EXISTS (SELECT 1 FROM pg_attribute
+    WHERE attrelid = 'lemonrudder.outcome'::regclass AND attname = 'cuts')";
+const ADD_CUTS: &str = "ALTER TABLE lemonrudder.outcome ADD COLUMN IF NOT EXISTS cuts bytea";
 /// What the store is known by, as it was drawn here.
 const IDENTITY: &str = "
     BEGIN;
@@ -90,16 +96,16 @@ const STATEMENTS: [&str; 11] = [
     "INSERT INTO lemonrudder.outcome (client, number, expiration, guard)
         SELECT $1::bytea, $2::integer, $3::bytea, $4::bigint WHERE $3 >= (SELECT least FROM lemonrudder.mark)
         ON CONFLICT DO NOTHING",
-    "SELECT status, little, place, body, client IS NOT NULL, $3 < least, guard
+    "SELECT status, little, place, body, client IS NOT NULL, $3 < least, guard, cuts
         FROM lemonrudder.mark LEFT JOIN lemonrudder.outcome ON client = $1 AND number = $2",
-    "UPDATE lemonrudder.outcome SET status = $4, little = $5, place = $6, body = $7
+    "UPDATE lemonrudder.outcome SET status = $4, little = $5, place = $6, body = $7, cuts = $8
         WHERE client = $1 AND number = $2 AND guard <> $3 AND status IS NULL
         AND NOT EXISTS (SELECT 1 FROM lemonrudder.guard
                         WHERE id = outcome.guard AND until >= clock_timestamp())
         RETURNING waited",
     "UPDATE lemonrudder.outcome SET waited = true
         WHERE client = $1 AND number = $2 AND status IS NULL",
-    "UPDATE lemonrudder.outcome SET status = $4, little = $5, place = $6, body = $7
+    "UPDATE lemonrudder.outcome SET status = $4, little = $5, place = $6, body = $7, cuts = $8
         WHERE client = $1 AND number = $2 AND guard = $3 AND status IS NULL RETURNING waited",
     "DELETE FROM lemonrudder.outcome
         WHERE client = $1 AND number = $2 AND guard = $3 AND status IS NULL RETURNING waited",
@@ -210,6 +216,9 @@ async fn prepare(client: &Client, drawn: Random) -> Result<(i32, Mark), Failure>
     if !known.get::<_, bool>(0) {
         client.batch_execute(TABLES).await?;
     }
+    if !client.query_one(HAS_CUTS, &[]).await?.get::<_, bool>(0) {
+        client.batch_execute(ADD_CUTS).await?;
+    }
     let version = client.query_one("SELECT version FROM lemonrudder.mark", &[]).await?;
     let known = "SELECT to_regclass('lemonrudder.identity') IS NOT NULL";
     if !client.query_one(known, &[]).await?.get::<_, bool>(0) {
@@ -243,7 +252,8 @@ fn outcome_of(row: &Row) -> Result<Option<Outcome>, Failure> {
     let order = if row.try_get(1)? { Order::Little } else { Order::Big };
     let status = u32::try_from(status).unwrap_or(u32::MAX);
     let place = u8::try_from(row.try_get::<_, i16>(2)?).unwrap_or(0);
-    Ok(Some(Outcome { status, order, place, body: row.try_get(3)? }))
+    let cuts = Cuts::read(row.try_get(7)?);
+    Ok(Some(Outcome { status, order, place, body: row.try_get(3)?, cuts }))
 }
 
 /// A transaction of a session.
@@ -279,7 +289,8 @@ impl Transaction<'_> {
         }
         let maybe = Outcome::maybe();
         let (status, little, place) = values_of(&maybe);
-        let values: Values<'_> = [id, number, guard, &status, &little, &place, &maybe.body];
+        let cuts = maybe.cuts.octets();
+        let values: Values<'_> = [id, number, guard, &status, &little, &place, &maybe.body, &cuts];
         if self.changed(&client.query(&says.lose, &values).await?)? {
             return Ok(Done::Begun(Begun::Done { outcome: maybe, is_ours: false }));
         }
@@ -290,7 +301,9 @@ impl Transaction<'_> {
     async fn finish(&self, key: &Key, outcome: &Outcome) -> Result<Done, Failure> {
         let Link { client, says, guard, .. } = self.link;
         let (id, number, (status, little, place)) = (&key.client, &key.number, values_of(outcome));
-        let values: Values<'_> = [id, number, guard, &status, &little, &place, &outcome.body];
+        let cuts = outcome.cuts.octets();
+        let values: Values<'_> =
+            [id, number, guard, &status, &little, &place, &outcome.body, &cuts];
         if self.changed(&client.query(&says.finish, &values).await?)? {
             return Ok(Done::Finished(Ok(outcome.clone())));
         }

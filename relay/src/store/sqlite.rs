@@ -6,6 +6,7 @@ use super::identity::{counts, Identity};
 use super::tables::{self, number, SHORT};
 use super::writer::{Database, Done, Step};
 use super::{Begun, Error, Key, Outcome};
+use crate::cuts::Cuts;
 use crate::mark::Mark;
 use lemonrudder::Order;
 use rusqlite::{
@@ -27,12 +28,13 @@ const READERS: Duration = Duration::from_secs(1);
 const LOG: i64 = 1 << 24;
 
 const FIND: &str = "SELECT status, body_order, place,
-        coalesce(body, (SELECT octets FROM bodies WHERE bodies.id = outcome.id)), life
+        coalesce(body, (SELECT octets FROM bodies WHERE bodies.id = outcome.id)), life, cuts
     FROM outcome WHERE client = ?1 AND number = ?2";
 const LEAST: &str = "SELECT least FROM mark";
 const BEGIN: &str =
     "INSERT INTO outcome (client, number, expiration, life) VALUES (?1, ?2, ?3, ?4)";
-const FINISH: &str = "UPDATE outcome SET status = ?3, body_order = ?4, place = ?5, body = ?6
+const FINISH: &str = "UPDATE outcome SET status = ?3, body_order = ?4, place = ?5, body = ?6,
+        cuts = ?7
     WHERE client = ?1 AND number = ?2 AND status IS NULL RETURNING id";
 const BODY: &str = "INSERT INTO bodies VALUES (?1, ?2)";
 const UNDO: &str = "DELETE FROM outcome WHERE client = ?1 AND number = ?2 AND status IS NULL";
@@ -62,7 +64,8 @@ fn found_in(row: &Row<'_>) -> Result<Found> {
     let life = row.get(4)?;
     let Some(status) = row.get(0)? else { return Ok((None, life)) };
     let order = if row.get(1)? { Order::Little } else { Order::Big };
-    Ok((Some(Outcome { status, order, place: row.get(2)?, body: row.get(3)? }), life))
+    let cuts = Cuts::read(row.get_ref(5)?.as_blob_or_null()?);
+    Ok((Some(Outcome { status, order, place: row.get(2)?, body: row.get(3)?, cuts }), life))
 }
 
 fn order_of(outcome: &Outcome) -> bool {
@@ -98,9 +101,10 @@ fn begin(with: &Transaction<'_>, life: i64, key: &Key, expiration: u64) -> Resul
 }
 
 fn finish(with: &Transaction<'_>, key: &Key, outcome: &Outcome) -> Result<Done> {
-    let Outcome { status, place, body, .. } = outcome;
+    let Outcome { status, place, body, cuts, .. } = outcome;
     let short = Some(body).filter(|body| body.len() <= SHORT);
-    let values = params![key.client, key.number, status, order_of(outcome), place, short];
+    let cuts = cuts.octets();
+    let values = params![key.client, key.number, status, order_of(outcome), place, short, cuts];
     let mut finish = with.prepare_cached(FINISH)?;
     let id: Option<i64> = finish.query_row(values, |row| row.get(0)).optional()?;
     if let Some(id) = id {

@@ -16,16 +16,21 @@ pub const SHORT: usize = 256;
 
 /// A row of `outcome` without a status is begun, in the life of a guard that it names. Moments are
 /// eight octets in big order. A body of more than 256 octets stands beside, in `bodies`, so that many
-/// outcomes share a page and a row grows little once it is done.
+/// outcomes share a page and a row grows little once it is done. Where a body was cut that came in a
+/// message of 1.1 stands in `cuts`, four octets in big order each.
 const OUTCOMES: &str = "
     CREATE TABLE outcome (
         id INTEGER PRIMARY KEY, client BLOB NOT NULL, number INTEGER NOT NULL, expiration BLOB NOT NULL,
-        life INTEGER NOT NULL, status INTEGER, body_order INTEGER, place INTEGER, body BLOB,
+        life INTEGER NOT NULL, status INTEGER, body_order INTEGER, place INTEGER, body BLOB, cuts BLOB,
         UNIQUE (client, number)
     );
     CREATE INDEX outcome_by_expiration ON outcome (expiration) WHERE status IS NOT NULL;
     CREATE TABLE bodies (id INTEGER PRIMARY KEY, octets BLOB NOT NULL);
 ";
+/// A file of this version has no cuts where a program made it that kept none. That program reads one
+/// which has them.
+const HAS_CUTS: &str = "SELECT count(*) FROM pragma_table_info('outcome') WHERE name = 'cuts'";
+const ADD_CUTS: &str = "ALTER TABLE outcome ADD COLUMN cuts BLOB";
 const MARK: &str = "
     CREATE TABLE mark (least BLOB NOT NULL, life INTEGER NOT NULL);
     INSERT INTO mark VALUES (x'0000000000000000', 0);
@@ -59,7 +64,12 @@ pub fn version_of(with: &Connection) -> Result<Option<i32>> {
 /// can't be made.
 pub fn make(with: &Transaction<'_>) -> Result<std::result::Result<(), &'static str>> {
     match version_of(with)? {
-        Some(VERSION) => return Ok(Ok(())),
+        Some(VERSION) => {
+            if with.query_row(HAS_CUTS, [], |row| row.get::<_, i32>(0))? == 0 {
+                with.execute_batch(ADD_CUTS)?;
+            }
+            return Ok(Ok(()));
+        }
         Some(BEFORE) => {
             with.execute_batch(SET_ASIDE)?;
             with.execute_batch(OUTCOMES)?;

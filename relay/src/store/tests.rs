@@ -4,6 +4,7 @@ use super::memory::Memory;
 use super::sqlite::Sqlite;
 use super::writer::{self, Database, Done, Step};
 use super::{Begun, Error, Key, Outcome, Store};
+use crate::cuts::Cuts;
 use crate::mark::Mark;
 use futures_util::future::select_all;
 use lemonrudder::Order;
@@ -21,6 +22,9 @@ mod postgres;
 
 /// A lease that no test outlives.
 const LONG: Duration = Duration::from_secs(3600);
+
+/// Where a body was cut, twice.
+const CUTS: &[u8] = b"\0\0\0\x02\0\0\0\x04";
 
 /// Steps, and what comes of each. `waits` is a begin that is not answered, `awaited` the first
 /// answer of one of those. Behind `#` is said why.
@@ -65,6 +69,9 @@ const STEPS: &str = "
     finish a 1 last   | last
     purge 18446744073709551615      | 1       # (b 2)
     begin a 1 1       | last
+    begin e 1 200     | new
+    finish e 1 cut    | cut        # .. with where it was cut
+    begin e 1 200     | cut
     begin d 1 9223372036854775808   | new
     begin d -1 9223372036854775807  | new
     begin d -1 1      | waits
@@ -88,7 +95,8 @@ fn outcome(text: &str) -> Outcome {
     let order = if text.len() % 2 == 0 { Order::Big } else { Order::Little };
     let (status, place) =
         (u32::try_from(text.len()).unwrap(), if order == Order::Big { 0 } else { 4 });
-    Outcome { status, order, place, body: text.into() }
+    let cuts = if text.starts_with("cut") { Cuts::read(Some(CUTS)) } else { Cuts::default() };
+    Outcome { place, cuts, ..Outcome::whole(status, order, text.into()) }
 }
 
 /// An outcome as the table says it.
@@ -197,7 +205,7 @@ fn a_system_exception_is_as_the_standard_writes_it() {
     let mut want = vec![0, 0, 0, 35];
     want.extend(b"IDL:omg.org/CORBA/COMM_FAILURE:1.0\0\0");
     want.extend([0, 0, 0, 0, 0, 0, 0, 2]);
-    assert_eq!(Outcome::maybe(), Outcome { status: 2, order: Order::Big, place: 0, body: want });
+    assert_eq!(Outcome::maybe(), Outcome::whole(2, Order::Big, want));
 }
 
 #[tokio::test]

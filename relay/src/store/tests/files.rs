@@ -47,7 +47,7 @@ async fn a_file_of_the_version_before_is_made_one_of_this() {
         let begun = taker.store.begin(&key("a", "3"), 100).await;
         assert_eq!(begun, Ok(Begun::Done { outcome: outcome(""), is_ours: false }));
         let begun = taker.store.begin(&key("a", "4"), 100).await;
-        let kept = Outcome { status: 3, order: Order::Big, place: 0, body: long.clone() };
+        let kept = Outcome::whole(3, Order::Big, long.clone());
         assert_eq!(begun, Ok(Begun::Done { outcome: kept, is_ours: false }));
         let steps = "
             begin a 1 100   | one of another
@@ -68,6 +68,23 @@ async fn a_file_of_the_version_before_is_made_one_of_this() {
         (tables::number(&now, "auto_vacuum"), tables::number(&now, "user_version")),
         (Ok(2), Ok(3))
     );
+}
+
+/// A file that has no place for cuts is that of a program which kept none.
+#[tokio::test]
+async fn a_file_gets_a_place_for_cuts() {
+    let file = file("uncut");
+    let mut taker = over_file(&file).await;
+    taker.table("begin a 1 100 | new\nfinish a 1 one | one").await;
+    taker.store.close().await;
+    let before = rusqlite::Connection::open(&file).unwrap();
+    before.execute_batch("ALTER TABLE outcome DROP COLUMN cuts").unwrap();
+    before.close().unwrap();
+    for life in ["new\nfinish a 2 cut | cut", "cut of another"] {
+        let mut taker = over_file(&file).await;
+        taker.table(&format!("begin a 1 100 | one of another\nbegin a 2 100 | {life}")).await;
+        taker.store.close().await;
+    }
 }
 
 #[tokio::test]

@@ -196,6 +196,20 @@ async fn postgres_takes_the_steps() {
 }
 
 #[tokio::test]
+async fn postgres_gets_a_place_for_cuts() {
+    let server = Database::new("cuts").await;
+    let mut before = server.guard(LONG).await;
+    before.table("begin a 1 100 | new\nfinish a 1 one | one").await;
+    before.store.close().await;
+    server.say("ALTER TABLE lemonrudder.outcome DROP COLUMN cuts").await;
+    for life in ["new\nfinish a 2 cut | cut", "cut of another"] {
+        let mut guard = server.guard(LONG).await;
+        guard.table(&format!("begin a 1 100 | one of another\nbegin a 2 100 | {life}")).await;
+        guard.store.close().await;
+    }
+}
+
+#[tokio::test]
 async fn postgres_has_two_guards() {
     let server = Database::new("two").await;
     let (mut one, mut other) = (server.guard(LONG).await, server.guard(LONG).await);
