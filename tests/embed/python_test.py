@@ -1675,6 +1675,53 @@ class Ends(Case):
         with self.assertLogs("lemonrudder"):
             self.run_async(main())
 
+    def test_a_server_takes_cuts_of_1_1(self):
+        """Anywhere, where it is said so; else a cut that is not aligned ends its connection."""
+        asked = giop.request(7, b"k", "echo", lambda out: out.string(b"a text"), minor=1)
+        wanted = giop.reply(7, lambda out: out.string(b"a text"), minor=1)
+
+        async def main():
+            for cuts in lr.Cuts:
+                server, _ = await self.pair({"echo": ("s", "s", lambda text: text)}, cuts=cuts)
+                async with server:
+                    reader, writer = await asyncio.open_connection("127.0.0.1", server.reference("k").addresses[0].port)
+                    for at in range(len(asked) - giop.HEADER):
+                        writer.write(b"".join(giop.cut(asked, [at])))
+                        if cuts is lr.Cuts.ALIGNED and at % 8 != 0:
+                            self.assertEqual(await reader.read(), giop.MESSAGE_ERROR)
+                            break
+                        self.assertEqual(await reader.readexactly(len(wanted)), wanted)
+                    writer.close()
+                    self.assertEqual(at, 1 if cuts is lr.Cuts.ALIGNED else len(asked) - giop.HEADER - 1)
+        with self.assertLogs("lemonrudder"):
+            self.run_async(main())
+
+    def test_a_client_takes_cuts_of_1_1(self):
+        """Anywhere, where it is said so; else a cut that is not aligned loses its connection, and the call expires."""
+        places = iter(range(1 << 30))
+
+        async def serve(reader, writer):
+            with contextlib.suppress(asyncio.IncompleteReadError, OSError):
+                while True:
+                    head = await reader.readexactly(giop.HEADER)
+                    came = giop.read(head + await reader.readexactly(giop.size_of(head) - giop.HEADER))
+                    answer = giop.reply(came.request_id, lambda out: out.string(b"a text"), minor=1)
+                    writer.write(b"".join(giop.cut(answer, [next(places) % (len(answer) - giop.HEADER)])))
+            writer.close()
+
+        async def main():
+            listener = await asyncio.start_server(serve, "127.0.0.1", 0)
+            port = listener.sockets[0].getsockname()[1]
+            async with listener, lr.Client("127.0.0.1", port, version=1, cuts=lr.Cuts.ANYWHERE) as client, \
+                    lr.Client("127.0.0.1", port, version=1, delays=(60, 60)) as other:
+                for _ in range(30):
+                    self.assertEqual(await client.call("k", "text", results="s"), "a text")
+                while next(places) % 8 != 0:
+                    pass
+                with self.assertRaises(lr.Expired):
+                    await other.call("k", "text", results="s", timeout=0.3)
+        self.run_async(main())
+
     def test_what_is_no_object(self):
         server = lr.Server()
         with self.assertRaisesRegex(TypeError, "no function, and there is no servant"):

@@ -13,7 +13,7 @@ from ._messages import Body, listed
 from ._outcomes import Expired, ForwardRequest, NeedsAddressing, SystemException, UserException
 from ._references import Ior
 from ._road import Call, Place, Road
-from ._table import Ended, Error, Wish
+from ._table import Cuts, Ended, Error, Wish
 
 _LAST = (1 << 31) - 1
 _NOT_EXIST = b"IDL:omg.org/CORBA/OBJECT_NOT_EXIST:1.0\0"
@@ -29,6 +29,7 @@ class Settings:
     version: int
     limit: int
     partials: int
+    cuts: int
     delays: Tuple[float, float]
     connect_timeout: float
     answer_timeout: Optional[float]
@@ -49,7 +50,8 @@ class Client:
     tried. Between rounds it waits, by chance between half of a delay and all of it; delays are the least, which
     doubles each time, and the most, in seconds. client_id: 1 to 256 octets without a NUL, which no other client has or
     had: servers know a call by it and by a number that begins at 1. Without one it is random; with one of before,
-    `recall` and `skip_to` say which numbers were used. version: 0 to 2. limit and partials: as of Assembler.
+    `recall` and `skip_to` say which numbers were used. version: 0 to 2. limit, partials and cuts: as of
+    Assembler.
     keep_transient: a call that TRANSIENT answers, unless it was completed, is sent again after a while, in place of
     raising. keep_forward: one that is forwarded is asked for under its number where it leads, on a connection of its
     own, and so are later calls of its key, until nobody answers there; in place of raising ForwardRequest.
@@ -62,15 +64,16 @@ class Client:
 
     def __init__(self, host: str, port: int, client_id: Optional[Text] = None, *,
                  others: Sequence[Tuple[str, int]] = (), version: int = 2, limit: int = LIMIT, partials: int = PARTIALS,
-                 delays: Tuple[float, float] = (0.02, 1.0), keep_transient: bool = True, keep_forward: bool = True,
-                 connect_timeout: float = 10.0, answer_timeout: Optional[float] = None, **options: Any) -> None:
+                 cuts: int = Cuts.ALIGNED, delays: Tuple[float, float] = (0.02, 1.0), keep_transient: bool = True,
+                 keep_forward: bool = True, connect_timeout: float = 10.0, answer_timeout: Optional[float] = None,
+                 **options: Any) -> None:
         places = ((host, port), *others)
         for _, one in places:
             if not 0 < one < 65536:
                 raise ValueError(f"no port: {one}")
         self.client_id = octets_of(client_id if client_id is not None else secrets.token_hex(16))
         self.key, self.is_closed, self.keep_forward = b"", False, keep_forward
-        self._settings = Settings(self.client_id, version, limit, partials, delays, connect_timeout, answer_timeout,
+        self._settings = Settings(self.client_id, version, limit, partials, cuts, delays, connect_timeout, answer_timeout,
                                   keep_transient, options)
         self._last = 0
         self._home: Tuple[Place, ...] = places

@@ -62,7 +62,7 @@ class Road:
         self._mute: Optional[TimeoutError] = None
         call(library.lr_client_open, self._slot, *lent(settings.client_id))
         for what, value in ((ClientSetting.VERSION, settings.version), (ClientSetting.MESSAGE, settings.limit),
-                            (ClientSetting.PARTIALS, settings.partials),
+                            (ClientSetting.PARTIALS, settings.partials), (ClientSetting.CUTS, settings.cuts),
                             (ClientSetting.KEEP_TRANSIENT, int(settings.keep_transient))):
             call(library.lr_client_set, self._slot, what, value)
 

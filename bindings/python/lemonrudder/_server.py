@@ -17,7 +17,7 @@ from ._messages import Body
 from ._references import Ior
 from ._servants import Judged, Offer, Operation, Performer, described
 from ._store import Store
-from ._table import Error, Why
+from ._table import Cuts, Error, Why
 from ._works import GRACE, Works
 
 # how long a turn lasts, in seconds: after that no further message of a connection is taken, nor outcome told. The first
@@ -53,7 +53,8 @@ class Server:
     Connections take turns, so that one that sends much leaves time to the others. Of a peer that takes nothing of
     what is due, or has as many requests parked as may be, nothing more is read.
 
-    limit, partials, capacity, share, max_parked, max_parked_of, max_joined, max_due and max_client_id: as of Engine.
+    limit, partials, cuts, capacity, share, max_parked, max_parked_of, max_joined, max_due and max_client_id: as of
+    Engine.
     max_elements: how many elements of sequences, and structs in structs, the arguments of a request may have in all,
     but for numbers, booleans and characters, since each takes its time for all connections: one that has more is
     refused by MARSHAL; None: as many as there are. Where max_parked requests are parked, an async operation is refused
@@ -81,9 +82,8 @@ class Server:
     def __init__(self, limit: int = LIMIT, partials: int = PARTIALS, capacity: int = 65536,
                  share: Optional[int] = None, *, max_parked: int = 1024, max_parked_of: int = 64, max_joined: int = 8,
                  max_due: int = 65536, max_client_id: int = 256, max_elements: Optional[int] = 65536,
-                 max_connections: int = 1000,
-                 timeout: Optional[float] = None, idle_timeout: Optional[float] = 300.0,
-                 write_timeout: float = 60.0, store: Optional[Store] = None,
+                 cuts: int = Cuts.ALIGNED, max_connections: int = 1000, timeout: Optional[float] = None,
+                 idle_timeout: Optional[float] = 300.0, write_timeout: float = 60.0, store: Optional[Store] = None,
                  purge_every: Optional[float] = 60.0) -> None:
         self.is_closed = False
         self.max_connections, self.timeout, self.idle_timeout = max_connections, timeout, idle_timeout
@@ -93,7 +93,7 @@ class Server:
         # (with a store nothing is kept, but each request that is parked, or is to be, takes a place)
         self._terms = (limit, partials, capacity, share) if store is None else (limit, partials, max_parked + 1, None)
         self._limits = {"max_parked": max_parked, "max_parked_of": max_parked_of, "max_joined": max_joined,
-                        "max_due": max_due, "max_client_id": max_client_id}
+                        "max_due": max_due, "max_client_id": max_client_id, "cuts": cuts}
         self._max_elements = max_elements
         # what is on offer; before `listen` a catalogue says whether it can be
         self._offer, self._trial = Offer(), Catalogue()
