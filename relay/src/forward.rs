@@ -206,13 +206,18 @@ pub struct Guarded {
 
 impl Guarded {
     /// What a client is told of a reply that found this relay at an address. A reference to which it
-    /// is forwarded leads to the relay.
+    /// is forwarded leads to the relay, over TLS or not.
     ///
     /// # Errors
     ///
     /// Says why the server's reply can't be passed on: it leads elsewhere, or wants another
     /// addressing of its object. The server has not performed the request then.
-    pub async fn told(&self, reply: Reply, found: SocketAddr) -> Result<Answer, String> {
+    pub async fn told(
+        &self,
+        reply: Reply,
+        found: SocketAddr,
+        is_tls: bool,
+    ) -> Result<Answer, String> {
         let Reply { status, order, mut contexts, body } = reply;
         // (that of a guard which stands where a server does)
         contexts.retain(|(id, _)| *id != compose::STORE);
@@ -222,12 +227,18 @@ impl Guarded {
         if !is_forward(status) {
             return Ok(Answer { status, order, contexts, body });
         }
-        let body = Box::pin(self.led(order, &body, found)).await?;
+        let body = Box::pin(self.led(order, &body, found, is_tls)).await?;
         Ok(Answer { status, order, contexts, body })
     }
 
     /// The body of a forward, made to lead to this relay, which was found at an address.
-    async fn led(&self, order: Order, body: &Body, found: SocketAddr) -> Result<Body, String> {
+    async fn led(
+        &self,
+        order: Order,
+        body: &Body,
+        found: SocketAddr,
+        is_tls: bool,
+    ) -> Result<Body, String> {
         let (text, places) = reference_in(order, body)?;
         let here = (found.ip().to_string(), found.port());
         let mut guarded =
@@ -240,7 +251,7 @@ impl Guarded {
             }
         }
         let (host, port) = self.published.first().unwrap_or(&here);
-        led(order, &reference::at(&text, host, *port, false)?)
+        led(order, &reference::at(&text, host, *port, is_tls)?)
     }
 }
 
@@ -382,20 +393,25 @@ mod tests {
         };
         // (the last is another spelling of ::b2)
         for (host, port) in [(b"::b1", 1), (b"::b2", 2), (b"::a1", 9), (b"::B2", 2)] {
-            let told = guarded.told(reply(forward, reference(host, port)), found).await.unwrap();
+            let told =
+                guarded.told(reply(forward, reference(host, port)), found, false).await.unwrap();
             assert_eq!((told.status, told.body.octets), (forward, reference(b"::a1", 9)));
         }
         for (host, port) in [(b"::b1", 2), (b"::b3", 1), (b"::c1", 9)] {
-            assert!(guarded.told(reply(forward, reference(host, port)), found).await.is_err());
+            assert!(guarded
+                .told(reply(forward, reference(host, port)), found, false)
+                .await
+                .is_err());
         }
         let other = reply(Status::NeedsAddressingMode.number(), vec![0, 0]);
-        assert!(guarded.told(other, found).await.is_err());
-        assert!(guarded.told(reply(forward, vec![0, 0, 0]), found).await.is_err());
-        let told = guarded.told(reply(0, vec![1, 2]), found).await.unwrap();
+        assert!(guarded.told(other, found, false).await.is_err());
+        assert!(guarded.told(reply(forward, vec![0, 0, 0]), found, false).await.is_err());
+        let told = guarded.told(reply(0, vec![1, 2]), found, false).await.unwrap();
         assert_eq!((told.body.octets, told.body.place), (vec![1, 2], 24));
         guarded.published = vec![("::c1".to_owned(), 8)];
         for (host, port) in [(b"::c1", 8), (b"::a1", 9)] {
-            let told = guarded.told(reply(forward, reference(host, port)), found).await.unwrap();
+            let told =
+                guarded.told(reply(forward, reference(host, port)), found, false).await.unwrap();
             assert_eq!(told.body.octets, reference(b"::c1", 8));
         }
     }

@@ -1,18 +1,20 @@
 //! The side of a relay to which clients connect: listeners, peers, and their messages.
 
 use crate::compose;
-use crate::descriptors;
 use crate::forward::{Answer, Request};
 use crate::frames::Frames;
 use crate::heard::{heard, Cancelled, Cancels, Heard};
 use crate::joined::Joined;
-use crate::memory::{Account, Held, Memory, Owed, CONNECTION, REQUEST, SECURED};
+use crate::live::{Live, Now};
+use crate::mark::Meant;
+use crate::memory::{Account, Held, Owed, CONNECTION, REQUEST, SECURED};
 use crate::metrics::metrics;
+use crate::peers::{self, Peers};
 use crate::performers::{Job, Performers};
 use crate::points::point;
 use crate::reasons::{self, Refusal};
 use crate::settings;
-use crate::shares::{Most, Share, Shares, Tally};
+use crate::shares::{Share, Tally};
 use crate::store::Key;
 use crate::timer::Timer;
 use crate::tls::Acceptor;
@@ -20,19 +22,20 @@ use crate::wire::{self, locked, shown, Reading, Writing};
 use crate::workers::Workers;
 use futures_util::future::abortable;
 use futures_util::poll;
-use lemonrudder::{write, Cuts, Fault, Limits, MessageType, Version};
-use std::collections::HashMap;
+use lemonrudder::{write, Cuts, Fault, Limits, LocateStatus, MessageType, Order, Version};
+use std::convert::Infallible;
 use std::future::Future;
 use std::io::{self, ErrorKind};
-use std::net::{self, IpAddr, SocketAddr};
+use std::net::{self, SocketAddr};
 use std::pin::pin;
+use std::sync::atomic::{AtomicU64, Ordering};
 use std::sync::{Arc, Mutex};
 use std::task::Poll;
 use std::time::Duration;
 use tokio::io::{copy, sink, AsyncReadExt, AsyncWriteExt};
 use tokio::net::{TcpListener, TcpStream};
 use tokio::select;
-use tokio::sync::{mpsc, watch, Semaphore};
+use tokio::sync::{mpsc, watch};
 use tokio::task::{JoinHandle, JoinSet};
 use tokio::time::{sleep, timeout, Instant};
 use tracing::{info, warn};
@@ -46,10 +49,10 @@ const LINGER: Duration = Duration::from_secs(2);
 /// What arrived before the end is heard, until nothing comes for so long: nobody is told that a one
 /// way call was not.
 const ARRIVED: Duration = Duration::from_millis(20);
+/// How often `retry` is told that this relay lives, while it is not heard.
+const SIGN: Duration = Duration::from_secs(1);
 /// How many replies are due to a peer from which on it is not heard.
 const DUE: usize = 64;
-/// How many requests of a connection are under way at most, but for those that a client id has.
-const REQUESTS: usize = 256;
 
 /// A client's connection.
 pub struct Peer {
@@ -114,15 +117,9 @@ pub trait Role: Send + Sync + 'static {
 /// What peers may take.
 #[derive(Clone)]
 pub struct Bounds {
-    pub limits: settings::Limits,
-    /// How many requests of one client id are under way at most.
-    pub share: usize,
-    /// What is held for peers.
-    pub memory: Arc<Memory>,
+    pub live: Arc<Live>,
     /// How many connections there may be to servers or guards.
     pub lines: usize,
-    /// How long what is under way has at the end.
-    pub drain: Duration,
     /// How many threads serve connections.
     pub threads: usize,
 }
@@ -130,38 +127,11 @@ pub struct Bounds {
 /// What all connections share.
 struct Front<R> {
     performers: Arc<Performers<R>>,
-    bounds: Bounds,
+    live: Arc<Live>,
     tls: Option<Acceptor>,
-    shares: Arc<Shares>,
+    peers: Arc<Peers>,
     under_way: Arc<Tally>,
     stop: watch::Receiver<bool>,
-    addresses: Mutex<HashMap<IpAddr, usize>>,
-}
-
-/// A peer's place among those of its address.
-struct Place<R>(Arc<Front<R>>, IpAddr);
-
-impl<R> Place<R> {
-    /// A place, if there is one left.
-    fn of(front: &Arc<Front<R>>, address: IpAddr) -> Option<Place<R>> {
-        let mut addresses = locked(&front.addresses);
-        let count = addresses.entry(address).or_default();
-        let is_left = *count < front.bounds.limits.peers_per_address;
-        *count += usize::from(is_left);
-        is_left.then(|| Place(front.clone(), address))
-    }
-}
-
-impl<R> Drop for Place<R> {
-    fn drop(&mut self) {
-        let mut addresses = locked(&self.0.addresses);
-        if let Some(count) = addresses.get_mut(&self.1) {
-            *count -= 1;
-            if *count == 0 {
-                addresses.remove(&self.1);
-            }
-        }
-    }
 }
 
 /// Listens on addresses, each `HOST:PORT`.
@@ -203,24 +173,22 @@ pub async fn serve<R: Role>(
     let workers = Workers::start(bounds.threads).map_err(|error| format!("threads: {error}"))?;
     let workers = Arc::new(workers);
     let (stopping, stopped) = watch::channel(false);
-    let (drain, limits) = (bounds.drain, &bounds.limits);
-    let most = Most { of_all: limits.parked, of_connection: REQUESTS, of_client: bounds.share };
-    let peers = descriptors::peers(limits.peers, bounds.lines);
-    let (peers, shares) = (Arc::new(Semaphore::new(peers)), Shares::new(most));
-    let (all, addresses) = (Arc::<Tally>::default(), Mutex::default());
-    let (performers, under_way) = (Performers::new(role, bounds.threads), all.clone());
-    let front = Front { performers, bounds, tls, shares, under_way, stop: stopped, addresses };
+    let Bounds { live, lines, threads } = bounds;
+    let peers = Peers::new(&live.now().limits, lines);
+    let (performers, all) = (Performers::new(role, threads), Arc::<Tally>::default());
+    let under_way = all.clone();
+    let front = Front { performers, live, tls, peers, under_way, stop: stopped };
     let front = Arc::new(front);
     let mut accepting = JoinSet::new();
     for listener in listeners {
-        accepting.spawn(accepts(front.clone(), listener, peers.clone(), workers.clone()));
+        accepting.spawn(accepts(front.clone(), listener, workers.clone()));
     }
     wire::notify("READY=1");
     stop.await;
     wire::notify("STOPPING=1");
     accepting.shutdown().await;
     _ = stopping.send(true);
-    let ended = timeout(drain, async {
+    let ended = timeout(front.live.now().drain, async {
         stopping.closed().await;
         all.ends().await;
     });
@@ -233,13 +201,8 @@ pub async fn serve<R: Role>(
 }
 
 /// Accepts connections of a listener.
-async fn accepts<R: Role>(
-    front: Arc<Front<R>>,
-    listener: TcpListener,
-    peers: Arc<Semaphore>,
-    workers: Arc<Workers>,
-) {
-    static NUMBER: std::sync::atomic::AtomicU64 = std::sync::atomic::AtomicU64::new(1);
+async fn accepts<R: Role>(front: Arc<Front<R>>, listener: TcpListener, workers: Arc<Workers>) {
+    static NUMBER: AtomicU64 = AtomicU64::new(1);
     loop {
         let (socket, address) = match listener.accept().await {
             Ok((socket, address)) => (socket, wire::plain(address)),
@@ -249,28 +212,35 @@ async fn accepts<R: Role>(
                 continue;
             }
         };
-        let number = NUMBER.fetch_add(1, std::sync::atomic::Ordering::Relaxed);
-        let Ok(place) = peers.clone().try_acquire_owned() else {
-            ended(number, address, &"there are too many".into());
-            continue;
-        };
-        let Some(of_address) = Place::of(&front, address.ip()) else {
-            ended(number, address, &"its address has too many".into());
-            continue;
-        };
-        let (Ok(socket), Some((tasks, held))) = (socket.into_std(), workers.least()) else {
-            ended(number, address, &Why::Failed.text().into());
-            continue;
-        };
-        let front = front.clone();
-        tasks.spawn(async move {
-            metrics().connections.inc();
-            let end = attends(&front, number, socket, address).await;
-            metrics().connections.dec();
-            ended(number, address, &end);
-            drop((place, of_address, held));
-        });
+        let number = NUMBER.fetch_add(1, Ordering::Relaxed);
+        let place = front.peers.place(address.ip(), &front.live.now().limits);
+        let begun =
+            place.and_then(|place| begins(&front, &workers, (number, address), socket, place));
+        if let Err(why) = begun {
+            ended(number, address, &why.into());
+        }
     }
+}
+
+/// Begins to attend to a connection, by its number and its address, on one of the threads.
+fn begins<R: Role>(
+    front: &Arc<Front<R>>,
+    workers: &Workers,
+    (number, address): (u64, SocketAddr),
+    socket: TcpStream,
+    place: peers::Place,
+) -> Result<(), &'static str> {
+    let socket = socket.into_std().map_err(|_| Why::Failed.text())?;
+    let (tasks, held) = workers.least().ok_or(Why::Failed.text())?;
+    let front = front.clone();
+    tasks.spawn(async move {
+        metrics().connections.inc();
+        let end = attends(&front, number, socket, address).await;
+        metrics().connections.dec();
+        ended(number, address, &end);
+        drop((place, held));
+    });
+    Ok(())
 }
 
 /// Why a connection ended, and more of that where more is known.
@@ -298,29 +268,26 @@ async fn attends<R: Role>(
     socket: net::TcpStream,
     address: SocketAddr,
 ) -> End {
-    let limits = &front.bounds.limits;
+    let now = front.live.now();
     let (Ok(found), Ok(socket)) = (socket.local_addr(), TcpStream::from_std(socket)) else {
         return Why::Failed.text().into();
     };
-    let found = wire::plain(found);
-    let accepted = wire::accept(socket, front.tls.as_ref(), limits).await;
+    let accepted = wire::accept(socket, front.tls.as_ref(), &now.limits).await;
     let (stream, names) = match accepted {
         Ok(accepted) => accepted,
         Err(error) if error.kind() == ErrorKind::UnexpectedEof => return "no handshake".into(),
         Err(error) => return End("no handshake", Some(error.to_string())),
     };
-    let (share, account) = (front.shares.share(address.ip()), front.bounds.memory.account());
-    let refused = Mutex::default();
-    let peer = Peer { number, address, found, names, share, account: account.clone(), refused };
     let (mut reading, writing) = stream.halves();
     let (due, dues) = mpsc::channel(DUE);
-    let (writing, ends) = abortable(writes(writing, dues, limits.stalled));
-    account.is_written_by(ends);
+    let (writing, ends) = abortable(writes(writing, dues, now.limits.stalled));
     let mut writer = tokio::spawn(async { _ = writing.await });
-    let Some(mut talk) = Talk::of(front, peer.into(), due) else {
+    let peer = front.peer(number, address, wire::plain(found), names);
+    peer.account.is_written_by(ends);
+    let Some(mut talk) = Talk::of(front, now, peer.into(), due) else {
         return Why::Memory.text().into();
     };
-    let why = talk.listens(&mut reading, &mut writer).await;
+    let Err(why) = talk.listens(&mut reading, &mut writer).await;
     if why.is_lost() {
         writer.abort();
         return why.text().into();
@@ -330,6 +297,20 @@ async fn attends<R: Role>(
     // what still comes means nothing; it is taken, so that what was sent last arrives
     _ = timeout(LINGER, copy(&mut reading, &mut sink())).await;
     why.text().into()
+}
+
+impl<R> Front<R> {
+    /// A peer of a number and an address, that found this relay at another one, and has these names.
+    fn peer(
+        &self,
+        number: u64,
+        address: SocketAddr,
+        found: SocketAddr,
+        names: Vec<String>,
+    ) -> Peer {
+        let (share, account) = (self.live.shares.share(address.ip()), self.live.memory.account());
+        Peer { number, address, found, names, share, account, refused: Mutex::default() }
+    }
 }
 
 /// The limits of a stream.
@@ -397,6 +378,8 @@ impl Why {
 /// A connection, its messages, and what is under way of it.
 struct Talk<R> {
     front: Arc<Front<R>>,
+    /// The settings as they were when it began.
+    now: Arc<Now>,
     peer: Arc<Peer>,
     frames: Frames,
     joined: Joined,
@@ -413,23 +396,31 @@ struct Talk<R> {
     over: Option<Instant>,
     /// Whether a message came that takes much, also once it is heard.
     was_long: bool,
+    /// Whether the peer is `retry`, and when it was told last that this relay lives.
+    is_retry: bool,
+    signed: Instant,
 }
 
 impl<R: Role> Talk<R> {
     /// One that begins, unless memory is short.
-    fn of(front: &Arc<Front<R>>, peer: Arc<Peer>, due: mpsc::Sender<Owed>) -> Option<Talk<R>> {
-        let (limits, bounds) = (&front.bounds.limits, &front.bounds);
+    fn of(
+        front: &Arc<Front<R>>,
+        now: Arc<Now>,
+        peer: Arc<Peer>,
+        due: mpsc::Sender<Owed>,
+    ) -> Option<Talk<R>> {
         if peer.account.is_over() {
             return None;
         }
         let itself = if front.tls.is_some() { SECURED } else { CONNECTION };
-        let itself = bounds.memory.account().hold(itself);
+        let itself = front.live.memory.account().hold(itself);
         let held = (peer.account.hold(SIZES.0), itself);
         Some(Talk {
             front: front.clone(),
+            frames: Frames::new(now.limits.message.min(compose::LONGEST)),
+            joined: Joined::open(limits_of(&now.limits)).ok()?,
+            now,
             peer,
-            frames: Frames::new(limits.message.min(compose::LONGEST)),
-            joined: Joined::open(limits_of(limits)).ok()?,
             sets: None,
             cancels: Cancels::default(),
             under_way: Arc::default(),
@@ -438,47 +429,40 @@ impl<R: Role> Talk<R> {
             held,
             over: None,
             was_long: false,
+            is_retry: false,
+            signed: Instant::now(),
         })
     }
 
-    /// Hears a peer until the connection ends.
-    async fn listens(&mut self, half: &mut Reading, writer: &mut JoinHandle<()>) -> Why {
+    /// Hears a peer until the connection ends, and answers why it does.
+    async fn listens(
+        &mut self,
+        half: &mut Reading,
+        writer: &mut JoinHandle<()>,
+    ) -> Result<Infallible, Why> {
         let (mut stop, stops) = (self.front.stop.clone(), self.front.stop.clone());
-        let (idle, account) = (self.front.bounds.limits.idle, self.peer.account.clone());
+        let (idle, account) = (self.now.limits.idle, self.peer.account.clone());
         let (mut stopped, mut quiet) = (pin!(stop.changed()), pin!(sleep(idle)));
         let mut room = vec![0; SIZES.0];
         loop {
             // (it changes once, where all is to stop)
             let is_stopped = !matches!(stops.has_changed(), Ok(false));
-            let over = match self.over(is_stopped) {
-                Ok(over) => over,
-                Err(why) => return why,
-            };
+            let pause = self.over(is_stopped)?.map(|over| self.rests_over(over));
             let most = account.left().clamp(LEAST, room.len());
             let reading = reads(half, &mut room, most);
             let read = select! {
                 biased;
-                _ = &mut *writer => return self.unwritten(),
-                () = account.less(over.unwrap_or_default()), if over.is_some() => continue,
-                read = within(is_stopped.then_some(ARRIVED), reading), if over.is_none() => read,
+                _ = &mut *writer => return Err(self.unwritten()),
+                () = account.less(pause.unwrap_or_default()), if pause.is_some() => continue,
+                read = within(is_stopped.then_some(ARRIVED), reading), if pause.is_none() => read,
                 _ = &mut stopped, if !is_stopped => continue,
-                () = &mut quiet => match self.rests(idle) {
-                    None => return Why::Idle,
-                    Some(until) => {
-                        quiet.as_mut().reset(until);
-                        continue;
-                    }
-                },
+                () = &mut quiet => {
+                    quiet.as_mut().reset(self.rests(idle)?);
+                    continue;
+                }
             };
-            let size = match read {
-                None => return Why::Stop,
-                Some(Ok(0)) => return Why::Closed,
-                Some(Ok(size)) => size,
-                Some(Err(_)) => return Why::Failed,
-            };
-            if let Err(why) = self.takes(&room[..size]).await {
-                return why;
-            }
+            let size = size_of(read)?;
+            self.takes(&room[..size]).await?;
             self.fits(&mut room, size);
         }
     }
@@ -496,7 +480,7 @@ impl<R: Role> Talk<R> {
         if pending > 0 || !self.was_long {
             return;
         }
-        if let Ok(joined) = Joined::open(limits_of(&self.front.bounds.limits)) {
+        if let Ok(joined) = Joined::open(limits_of(&self.now.limits)) {
             (self.joined, self.was_long) = (joined, false);
         }
     }
@@ -509,12 +493,29 @@ impl<R: Role> Talk<R> {
             return Ok(None);
         }
         let over = self.over.get_or_insert_with(Instant::now).elapsed();
-        let is_long = over > self.front.bounds.limits.stalled;
+        let is_long = over > self.now.limits.stalled;
         match (is_stopped, is_long && self.peer.account.holds(&self.held.0)) {
             (true, _) => Err(Why::Stop),
             (_, true) => Err(Why::Memory),
             _ => Ok(Some(over)),
         }
+    }
+
+    /// How long a peer is not heard at first that was not for so long. What `retry` asks then is not
+    /// heard either: it is told that this relay lives, by an answer to nothing, unless something is due
+    /// to it, which tells that too.
+    fn rests_over(&mut self, over: Duration) -> Duration {
+        if !self.is_retry {
+            return over;
+        }
+        if self.signed.elapsed() >= SIGN && self.peer.account.owes_nothing() {
+            let here = LocateStatus::ObjectHere;
+            if let Ok(octets) = write::locate_reply(Version::V12, Order::Big, 0, here) {
+                _ = self.due.try_send(self.peer.account.owes(octets));
+                self.signed = Instant::now();
+            }
+        }
+        over.min(SIGN)
     }
 
     /// Why nothing is written any more.
@@ -527,15 +528,15 @@ impl<R: Role> Talk<R> {
     }
 
     /// Until when a connection may rest that was heard, or has something under way, within a time.
-    fn rests(&mut self, idle: Duration) -> Option<Instant> {
+    fn rests(&mut self, idle: Duration) -> Result<Instant, Why> {
         let now = Instant::now();
         if self.heard + idle <= now {
             if self.under_way.is_none() {
-                return None;
+                return Err(Why::Idle);
             }
             self.heard = now;
         }
-        Some(self.heard + idle)
+        Ok(self.heard + idle)
     }
 
     /// Takes octets that came.
@@ -571,6 +572,7 @@ impl<R: Role> Talk<R> {
             };
             match heard {
                 Heard::Performed(mut request, id) => {
+                    self.is_retry |= request.meant != Meant::Any;
                     let body = Arc::make_mut(&mut request.body);
                     body.cuts = self.frames.cuts().behind(body.place);
                     self.performs(request, id).await;
@@ -648,6 +650,16 @@ async fn reads(half: &mut Reading, room: &mut [u8], most: usize) -> io::Result<u
         return read;
     }
     half.read(&mut room[..most.min(SIZES.0)]).await
+}
+
+/// How many octets were read, or why a connection ends.
+fn size_of(read: Option<io::Result<usize>>) -> Result<usize, Why> {
+    match read {
+        None => Err(Why::Stop),
+        Some(Ok(0)) => Err(Why::Closed),
+        Some(Ok(size)) => Ok(size),
+        Some(Err(_)) => Err(Why::Failed),
+    }
 }
 
 /// What comes of a future, within a time where one is given.

@@ -5,12 +5,14 @@ use crate::access::{Clients, Wanted};
 use crate::compose::Contexts;
 use crate::forward::{is_forward, Answer, Ft, Guarded};
 use crate::front::{self, Asked, Role};
+use crate::live::{Live, Now};
 use crate::mark::{Meant, Told};
 use crate::metrics::{self, metrics, Trouble};
 use crate::points::point;
 use crate::pool::{Loss, Places, Pool, Reply, Terms, UNWRITTEN};
 use crate::reasons::Refusal;
 use crate::reload::{Files, Reload};
+use crate::settings::Common;
 use crate::store::{Begun, Key, Outcome, Store};
 use crate::timer::{after, Timer};
 use crate::wire::{self, shown};
@@ -53,15 +55,26 @@ impl Places for Servers {
     }
 }
 
+impl Servers {
+    /// These, as what is guarded by who has these settings.
+    fn guarded(&self, common: &Common) -> Guarded {
+        Guarded {
+            published: wire::all_parts(&common.published),
+            listens: wire::all_parts(&common.listen),
+            servers: Arc::new(self.clone()),
+        }
+    }
+}
+
 /// A guard.
 pub struct Guard {
     store: Store,
     pool: Arc<Pool>,
     guarded: Guarded,
-    /// How long a server may take for a request.
-    timeout: Duration,
-    /// How long an outcome is kept at most.
-    keep: Option<Duration>,
+    /// Whether it speaks TLS with who connects.
+    is_tls: bool,
+    /// How long a server may take for a request, and an outcome is kept.
+    live: Arc<Live>,
     /// What peers may ask for.
     access: Option<Arc<RwLock<Clients>>>,
 }
@@ -76,41 +89,35 @@ pub async fn run(settings: settings::Guard) -> Result<(), String> {
     let files = Files::of_guard(&settings).map_err(|faults| faults.join("\n"))?;
     let (tls, connector, access) =
         (files.acceptor.clone(), files.connector.clone(), files.access.clone());
-    tokio::spawn(reload.runs(files));
-    let settings::Guard { common, server, reference, share, .. } = settings;
-    let bounds = common.bounds(share, 1);
+    let live = Live::new(Now::of_guard(&settings));
+    tokio::spawn(reload.runs(files, live.clone()));
+    let settings::Guard { common, server, reference, .. } = settings;
     let store =
         Store::open(&settings.store, settings.lease).await.map_err(|error| error.to_string())?;
-    store.holds(bounds.memory.account());
+    store.holds(live.memory.account());
     let listeners = front::listen(&common.listen).await?;
     let servers = Servers { addresses: server, references: reference };
-    let terms = Terms { tls: connector, ..common.terms(UNWRITTEN, &listeners) };
-    let pool = Pool::new(Box::new(servers.clone()), terms);
-    let guard = Arc::new(Guard {
-        store,
-        pool,
-        guarded: Guarded {
-            published: wire::all_parts(&common.published),
-            listens: wire::all_parts(&common.listen),
-            servers: Arc::new(servers),
-        },
-        timeout: common.timeout,
-        keep: settings.keep,
-        access,
-    });
+    let (guarded, is_tls) = (servers.guarded(&common), tls.is_some());
+    let terms = Terms { tls: connector, ..common.terms(&live, UNWRITTEN, &listeners) };
+    let (pool, bounds) = (Pool::new(Box::new(servers), terms), common.bounds(&live, 1));
+    let guard = Arc::new(Guard { store, pool, guarded, is_tls, live, access });
     if let Some(address) = &common.metrics {
-        let guard = guard.clone();
-        let ready = move || {
-            let guard = guard.clone();
-            Box::pin(async move { guard.trouble().await }) as Trouble
-        };
-        metrics::listen(address, ready).await?;
+        metrics::listen(address, looks(&guard)).await?;
     }
     let purging = tokio::spawn(purges(guard.clone()));
     let served = front::serve(guard.clone(), listeners, tls, bounds, wire::ended()).await;
     purging.abort();
     guard.store.close().await;
     served
+}
+
+/// What looks whether a guard is ready.
+fn looks(guard: &Arc<Guard>) -> impl Fn() -> Trouble + Send + Sync + 'static {
+    let guard = guard.clone();
+    move || {
+        let guard = guard.clone();
+        Box::pin(async move { guard.trouble().await })
+    }
 }
 
 /// Takes what expired out of the store, again and again.
@@ -266,10 +273,11 @@ impl Guard {
             return Err(refusal);
         }
         let now = Moment::now();
+        let keep = self.live.now().keep;
         if ft.expiration < now {
             return Err(Refusal::Expired);
         }
-        if self.keep.is_some_and(|keep| ft.expiration > now + keep) {
+        if keep.is_some_and(|keep| ft.expiration > now + keep) {
             return Err(Refusal::Keep);
         }
         self.is_meant(asked)
@@ -337,7 +345,7 @@ impl Guard {
             Err(loss) => return lost(loss),
         };
         metrics().performed.inc();
-        let replied = timer.until(after(self.timeout), pending.reply());
+        let replied = timer.until(after(self.live.now().timeout), pending.reply());
         let ended = match &mut asked.cancelled {
             None => replied.await,
             Some(cancelled) => select! {
@@ -365,9 +373,11 @@ impl Guard {
     /// What is told of a server's reply. A forward that leads elsewhere passes to `retry`, which follows
     /// it to guards alone.
     async fn told(&self, reply: Reply, asked: &Asked) -> Sent {
-        let is_judged = asked.request.meant != Meant::Any && is_forward(reply.status);
-        let as_it_is = is_judged.then(|| reply.clone());
-        match (self.guarded.told(reply, asked.peer.found).await, as_it_is) {
+        let is_retry = asked.request.meant != Meant::Any;
+        let as_it_is = (is_retry && is_forward(reply.status)).then(|| reply.clone());
+        // (which knows how its guards are reached)
+        let is_tls = self.is_tls && !is_retry;
+        match (self.guarded.told(reply, asked.peer.found, is_tls).await, as_it_is) {
             (Ok(answer), _) if answer.is_forward() => Sent::Led(answer),
             (Ok(answer), _) => Sent::Done(answer),
             (Err(_), Some(Reply { status, order, body, .. })) => {

@@ -28,7 +28,7 @@ const PAUSES: (Duration, Duration) = (Duration::from_millis(100), Duration::from
 
 /// What is held in all.
 pub struct Memory {
-    most: usize,
+    most: AtomicUsize,
     held: AtomicUsize,
 }
 
@@ -61,7 +61,12 @@ impl Memory {
     /// So many octets at most.
     #[must_use]
     pub fn new(most: usize) -> Arc<Memory> {
-        Arc::new(Memory { most, held: AtomicUsize::new(0) })
+        Arc::new(Memory { most: AtomicUsize::new(most), held: AtomicUsize::new(0) })
+    }
+
+    /// So many from now on.
+    pub fn becomes(&self, most: usize) {
+        self.most.store(most, Ordering::Relaxed);
     }
 
     /// An account of somebody for whom nothing is held.
@@ -72,15 +77,19 @@ impl Memory {
         Arc::new(Account { memory: self.clone(), held, due, less, writer, owed_much })
     }
 
+    fn most(&self) -> usize {
+        self.most.load(Ordering::Relaxed)
+    }
+
     fn free(&self) -> usize {
-        self.most.saturating_sub(self.held.load(Ordering::Relaxed))
+        self.most().saturating_sub(self.held.load(Ordering::Relaxed))
     }
 
     /// How much more one may hold who holds so much.
     fn left(&self, held: usize) -> usize {
-        let free = self.free();
-        let beyond = free.saturating_sub(self.most / FOR_LITTLE) as u128;
-        let part = beyond * beyond / self.most as u128;
+        let (free, most) = (self.free(), self.most());
+        let beyond = free.saturating_sub(most / FOR_LITTLE) as u128;
+        let part = beyond * beyond / most.max(1) as u128;
         usize::try_from(part).unwrap_or(free).max(LITTLE).saturating_sub(held).min(free)
     }
 }
@@ -127,6 +136,12 @@ impl Account {
     #[must_use]
     pub fn holds(&self, all: &Held) -> bool {
         self.held.load(Ordering::Relaxed) == all.size
+    }
+
+    /// Whether nothing is due.
+    #[must_use]
+    pub fn owes_nothing(&self) -> bool {
+        self.due.load(Ordering::Relaxed) == 0
     }
 
     /// Whether too much was due.

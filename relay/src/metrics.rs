@@ -163,16 +163,16 @@ impl Metrics {
         let it = &registry;
         let oldest = ("oldest_parked_seconds", "For how long the oldest request is under way");
         let requests = counts(it, "requests_total", "Requests that came", "keyed");
+        let of_lines = "Connections to servers or guards";
+        let ended = format!("{of_lines} that ended");
+        let silent = format!("{of_lines} on which nothing came any more");
+        let others = "Those of them whose first was begun in another life of a guard";
         Metrics {
             keyed: requests.with_label_values(&["yes"]),
             free: requests.with_label_values(&["no"]),
             performed: count(it, "performed_total", "Requests that were sent to a server"),
             repeats: count(it, "repeats_total", "Requests answered by an outcome that was kept"),
-            after_restart: count(
-                it,
-                "repeats_after_restart_total",
-                "Those of them whose first was begun in another life of a guard",
-            ),
+            after_restart: count(it, "repeats_after_restart_total", others),
             sent_again: count(it, "sent_again_total", "Transmissions that are not the first"),
             refused: counts(it, "refused_total", "Requests of which nothing is kept", "reason"),
             maybe: count(it, "maybe_total", "Requests told that nobody knows"),
@@ -180,18 +180,9 @@ impl Metrics {
             connections: gauge(it, "connections", "Connections of clients"),
             ended: counts(it, "connections_ended_total", "Connections that ended", "why"),
             memory: gauge(it, "memory_octets", "Octets that are held for clients"),
-            lines: gauge(it, "server_connections", "Connections to servers or guards"),
-            lines_ended: counts(
-                it,
-                "server_connections_ended_total",
-                "Connections to servers or guards that ended",
-                "why",
-            ),
-            lines_silent: count(
-                it,
-                "server_connections_silent_total",
-                "Connections to servers or guards on which nothing came any more",
-            ),
+            lines: gauge(it, "server_connections", of_lines),
+            lines_ended: counts(it, "server_connections_ended_total", &ended, "why"),
+            lines_silent: count(it, "server_connections_silent_total", &silent),
             steps: Steps::of(it),
             waiting: gauge(it, "waiting", "Requests that wait for their first transmission"),
             writes: histogram(it, "store_write_seconds", "Time of a transaction", SHORTEST),

@@ -10,6 +10,7 @@ use crate::frames::Frames;
 use crate::health::{Sign, Watch, SILENT};
 use crate::joined::Joined;
 use crate::line::{self, End, Line, Pending, State};
+use crate::live::{Live, Now};
 use crate::metrics::metrics;
 use crate::points::point;
 use crate::reasons;
@@ -123,12 +124,10 @@ pub struct Terms {
     pub tls: Option<Connector>,
     /// How many connections there are at most, of each class.
     pub most: usize,
-    /// For how long a connection may be without requests.
-    pub idle: Duration,
+    /// For how long a connection may be without requests, and a message may bring nothing.
+    pub live: Arc<Live>,
     /// How long what is sent may be unconfirmed by the peer's system.
     pub unconfirmed: Duration,
-    /// How long a message may bring nothing of its octets.
-    pub stalled: Duration,
     /// Whether it is a guard, which is asked for signs.
     pub is_guard: bool,
     /// Where this program listens itself.
@@ -361,15 +360,15 @@ async fn reads(
         // (some may be written by now)
         return ("memory is short", Loss::Lost);
     };
-    let (frames, now) = (Frames::new(compose::LONGEST), Instant::now());
-    let watch = Watch::new(now, pool.terms.stalled);
+    let (frames, now) = (Frames::new(compose::LONGEST), pool.terms.live.now());
+    let watch = Watch::new(Instant::now(), now.stalled());
     let watch = if pool.terms.is_guard {
         watch.asking(class.silences.load(Ordering::Relaxed))
     } else {
         watch
     };
     let mut ear = Ear { class, line, frames, joined, watch, is_silent: false };
-    let Err(end) = ear.hears_all(half, &pool.terms, writer).await;
+    let Err(end) = ear.hears_all(half, &now, writer).await;
     end
 }
 
@@ -389,10 +388,11 @@ impl Ear<'_> {
     async fn hears_all(
         &mut self,
         mut half: Reading,
-        terms: &Terms,
+        now: &Now,
         writer: &JoinHandle<()>,
     ) -> Result<Infallible, (&'static str, Loss)> {
-        let tick = TICK.min(terms.stalled / 4).min(terms.idle).max(SHORTEST);
+        let idle = now.limits.idle;
+        let tick = TICK.min(now.stalled() / 4).min(idle).max(SHORTEST);
         let (mut heard, mut is_heard, mut room) = (Instant::now(), false, vec![0; BATCH]);
         let (mut left, mut quiet) = (pin!(self.line.left.notified()), pin!(sleep(tick)));
         loop {
@@ -408,7 +408,7 @@ impl Ear<'_> {
                     self.turns()?;
                 }
                 () = &mut quiet => {
-                    self.line.rests(&mut heard, terms.idle, writer)?;
+                    self.line.rests(&mut heard, idle, writer)?;
                     self.judges()?;
                     quiet.as_mut().reset((Instant::now() + tick).into());
                 }

@@ -1,8 +1,9 @@
 //! SIGHUP: the files that certificates, what is revoked, and clients stand in are read anew, and the
-//! settings that name them. Connections that are there go on; those that come are of the new ones.
-//! Where anything is wrong at that moment, all stays as it was.
+//! settings that name them, or may change otherwise. Connections that are there go on; those that come
+//! are of the new ones. Where anything is wrong at that moment, all stays as it was.
 
 use crate::access::Clients;
+use crate::live::{self, Live, Now};
 use crate::near::{OfClients, OfServers};
 use crate::settings::{self, Role, Tls, Words};
 use crate::tls::{Acceptor, Connector};
@@ -24,7 +25,7 @@ pub struct Files {
     pub access: Option<Arc<RwLock<Clients>>>,
 }
 
-/// The settings that may change while the program runs: those that name files.
+/// The settings that name files which may change while the program runs.
 #[derive(Default)]
 struct Named {
     files: BTreeMap<&'static str, PathBuf>,
@@ -35,10 +36,14 @@ struct Named {
 /// What waits for SIGHUP.
 pub struct Reload {
     hangups: Signal,
-    /// The words that the program was begun with.
-    words: Vec<OsString>,
+    /// What the settings said when the program began, and when they were read last.
+    first: Values,
+    last: Values,
     named: Named,
 }
+
+/// What is said of each setting.
+type Values = BTreeMap<String, Vec<OsString>>;
 
 impl Named {
     fn of(all: &[(&'static str, &Option<PathBuf>)]) -> Named {
@@ -68,7 +73,7 @@ impl Named {
 }
 
 /// What words say of each setting.
-fn values(words: &[OsString]) -> Option<BTreeMap<String, Vec<OsString>>> {
+fn values(words: &[OsString]) -> Option<Values> {
     let command = Words::command();
     let found = command.clone().try_get_matches_from(words).ok()?;
     let (role, of_role) = found.subcommand()?;
@@ -84,16 +89,20 @@ fn values(words: &[OsString]) -> Option<BTreeMap<String, Vec<OsString>>> {
     Some(names.collect())
 }
 
-/// The settings of which words say something else than others.
-fn differing(before: &[OsString], now: &[OsString]) -> Vec<String> {
-    let (before, now) = (values(before).unwrap_or_default(), values(now).unwrap_or_default());
-    now.into_iter()
-        .filter(|(name, of)| before.get(name) != Some(of))
-        .map(|(name, _)| name)
-        .collect()
+/// The settings of which something else is said than before.
+fn differing<'v>(before: &'v Values, now: &'v Values) -> impl Iterator<Item = &'v str> {
+    let differ = |(name, said): &(&'v String, &Vec<OsString>)| before.get(*name) != Some(*said);
+    now.iter().filter(differ).map(|(name, _)| &name[..])
 }
 
-/// The settings that may change, and the files that they name.
+/// What is said of a setting, in a word.
+fn shown(values: &Values, name: &str) -> String {
+    let said: &[OsString] = values.get(name).map_or(&[], Vec::as_slice);
+    let words: Vec<_> = said.iter().map(|word| word.to_string_lossy()).collect();
+    words.join(",")
+}
+
+/// The settings that name such files, and those.
 fn changing(role: &Role) -> Vec<(&'static str, &Option<PathBuf>)> {
     let (tls, others) = match role {
         Role::Guard(it) => {
@@ -140,16 +149,16 @@ impl Reload {
             drop(signal(kind).map_err(failed)?);
         }
         let hangups = signal(SignalKind::hangup()).map_err(failed)?;
-        let words = Words::whole(env::args_os()).map_err(|faults| faults.join("\n"))?;
-        let read = Words::read(env::args_os()).map_err(|faults| faults.join("\n"))?;
-        Ok(Reload { hangups, words, named: Named::of(&changing(&read.role)) })
+        let (first, read) = said().map_err(|faults| faults.join("\n"))?;
+        let named = Named::of(&changing(&read.role));
+        Ok(Reload { hangups, last: first.clone(), first, named })
     }
 
-    /// Reads files anew at each SIGHUP.
-    pub async fn runs(mut self, files: Files) {
+    /// Reads settings and files anew at each SIGHUP.
+    pub async fn runs(mut self, files: Files, live: Arc<Live>) {
         while self.hangups.recv().await.is_some() {
-            match self.renews(&files) {
-                Ok(()) => info!("SIGHUP: files are read anew"),
+            match self.renews(&files, &live) {
+                Ok(()) => info!("SIGHUP: settings and files are read anew"),
                 Err(faults) => {
                     for why in faults {
                         error!(why, "SIGHUP: nothing is changed");
@@ -159,26 +168,39 @@ impl Reload {
         }
     }
 
-    /// Reads files anew, and says what changed.
-    fn renews(&mut self, files: &Files) -> Result<(), Vec<String>> {
-        let words = Words::whole(env::args_os())?;
-        let read = Words::read(env::args_os())?;
-        let anew = match &read.role {
-            Role::Guard(settings) => Files::of_guard(settings)?,
-            Role::Retry(settings) => Files::of_retry(settings)?,
+    /// Reads settings and files anew, and says what changed.
+    fn renews(&mut self, files: &Files, live: &Live) -> Result<(), Vec<String>> {
+        let (values, read) = said()?;
+        let (anew, now) = match &read.role {
+            Role::Guard(settings) => (Files::of_guard(settings)?, Now::of_guard(settings)),
+            Role::Retry(settings) => (Files::of_retry(settings)?, Now::of_retry(settings)),
             Role::Ior(_) | Role::Check(_) | Role::Store(_) => return Ok(()),
         };
         files.becomes(&anew)?;
+        live.becomes(now);
         let changing = changing(&read.role);
         let named = Named::of(&changing);
         named.says(&self.named);
-        let all = differing(&self.words, &words);
-        for setting in all.iter().filter(|name| !changing.iter().any(|(it, _)| it == name)) {
-            warn!(setting, "it can't change without a restart");
-        }
         self.named = named;
+        for setting in differing(&self.last, &values).filter(|name| live::NAMES.contains(name)) {
+            info!(setting, value = shown(&values, setting), "changed");
+        }
+        let is_read = |name: &str| {
+            live::NAMES.contains(&name) || changing.iter().any(|(file, _)| *file == name)
+        };
+        differing(&self.first, &values)
+            .filter(|name| !is_read(name))
+            .for_each(|setting| warn!(setting, "needs a restart"));
+        self.last = values;
         Ok(())
     }
+}
+
+/// What the settings say by now, and what that means.
+fn said() -> Result<(Values, Words), Vec<String>> {
+    let words = Words::whole(env::args_os())?;
+    let read = Words::of(&words)?;
+    Ok((values(&words).unwrap_or_default(), read))
 }
 
 /// A fault that is the only one.

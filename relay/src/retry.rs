@@ -10,11 +10,13 @@ use crate::compose::{Body, Head, STORE};
 use crate::forward::{is_forward, Answer, Request, FT_REQUEST, PROFILES};
 use crate::front::{self, Asked, Peer, Role};
 use crate::guard::DECLINED;
+use crate::live::{Live, Now};
 use crate::mark::{Mark, Meant, Told};
 use crate::metrics::{self, metrics, Trouble};
 use crate::points::point;
 use crate::pool::{Loss, Pool, Reply, Terms};
 use crate::reasons::Refusal;
+use crate::reference;
 use crate::reload::{Files, Reload};
 use crate::settings;
 use crate::store::Key;
@@ -52,14 +54,18 @@ pub async fn run(settings: settings::Retry) -> Result<(), String> {
     let reload = Reload::begin()?;
     let files = Files::of_retry(&settings).map_err(|faults| faults.join("\n"))?;
     let (tls, acceptor) = (files.connector.clone(), files.acceptor.clone());
-    tokio::spawn(reload.runs(files));
+    let live = Live::new(Now::of_retry(&settings));
+    tokio::spawn(reload.runs(files, live.clone()));
     let settings::Retry { common, guard, name, .. } = settings;
     let keys = Keys::open(&name).map_err(|error| format!("random numbers: {error}"))?;
     let listeners = front::listen(&common.listen).await?;
     let mut guards = Vec::new();
     for address in guard {
-        let terms =
-            Terms { tls: tls.clone(), is_guard: true, ..common.terms(UNCONFIRMED, &listeners) };
+        let terms = Terms {
+            tls: tls.clone(),
+            is_guard: true,
+            ..common.terms(&live, UNCONFIRMED, &listeners)
+        };
         let pool = Pool::new(Box::new(vec![address.clone()]), terms);
         guards.push((address, pool));
     }
@@ -69,8 +75,8 @@ pub async fn run(settings: settings::Retry) -> Result<(), String> {
         metrics::listen(address, ready).await?;
     }
     let own = wire::all_parts(&[&common.published[..], &common.listen].concat());
-    let bounds = common.bounds(usize::MAX, guards.len());
-    let role = Retry::new(guards, own, keys, common.timeout);
+    let bounds = common.bounds(&live, guards.len());
+    let role = Retry::new(guards, own, keys, live);
     front::serve(role, listeners, acceptor, bounds, wire::ended()).await
 }
 
@@ -187,7 +193,7 @@ pub struct Retry {
     /// Where clients find this relay.
     own: Vec<(String, u16)>,
     keys: Keys,
-    timeout: Duration,
+    live: Arc<Live>,
     /// Changes where a guard can be reached again.
     ups: watch::Receiver<u64>,
 }
@@ -209,12 +215,12 @@ impl Retry {
         guards: Vec<(String, Arc<Pool>)>,
         own: Vec<(String, u16)>,
         keys: Keys,
-        timeout: Duration,
+        live: Arc<Live>,
     ) -> Arc<Retry> {
         let (told, ups) = watch::channel(0);
         let told = Arc::new(told);
         let guards = guards.into_iter().map(|(address, pool)| Upstream::new(address, pool, &told));
-        Arc::new(Retry { guards: guards.collect(), own, keys, timeout, ups })
+        Arc::new(Retry { guards: guards.collect(), own, keys, live, ups })
     }
 
     /// Sends a request until it is answered, or its time is over.
@@ -237,13 +243,13 @@ impl Retry {
     fn keyed(&self, request: Request, peer: u64) -> Result<Call, Error> {
         let Request { mut head, body, ft, .. } = request;
         let (now, at) = (Moment::now(), Instant::now());
-        let is_ours = ft.is_none();
+        let (is_ours, timeout) = (ft.is_none(), self.live.now().timeout);
         let (key, expiration, ends) = match ft {
-            None => (self.keys.next(peer), now + (self.timeout + SLACK), at + self.timeout),
+            None => (self.keys.next(peer), now + (timeout + SLACK), at + timeout),
             Some(ft) => {
                 let left =
                     Duration::from_nanos(ft.expiration.0.saturating_sub(now.0).saturating_mul(100));
-                (ft.key, ft.expiration, at + left.min(self.timeout))
+                (ft.key, ft.expiration, at + left.min(timeout))
             }
         };
         let (client_id, retention_id) = (&key.client[..], key.number);
@@ -420,8 +426,10 @@ fn places_in(reply: &Reply) -> Vec<((String, u16), Vec<u8>)> {
     let read = Ior::read(&mut Reader::at(&body.octets, reply.order, body.place));
     let Ok(mut ior) = read else { return Vec::new() };
     let addresses = ior.profiles().filter_map(|profile| profile.ok()?.address);
-    let places =
-        addresses.map(|it| ((String::from_utf8_lossy(&it.host).into_owned(), it.port), it.key));
+    let places = addresses.map(|it| {
+        let port = reference::port_of(&it);
+        ((String::from_utf8_lossy(&it.host).into_owned(), port), it.key)
+    });
     places.take(PROFILES).collect()
 }
 
@@ -511,7 +519,8 @@ mod tests {
         let pool = |address: &str| Pool::new(Box::new(vec![address.to_owned()]), Terms::default());
         let guards = guards.iter().map(|address| (address.to_string(), pool(address))).collect();
         let (own, keys) = (vec![("10.0.0.9".to_owned(), 2809)], Keys::open("retry").unwrap());
-        Retry::new(guards, own, keys, Duration::from_secs(60))
+        let now = Now { timeout: Duration::from_secs(60), ..Now::default() };
+        Retry::new(guards, own, keys, Live::new(now))
     }
 
     fn request(ft: Option<crate::forward::Ft>, wish: Wish) -> Request {
@@ -525,39 +534,19 @@ mod tests {
         Mark { store: [store; 16], ..Mark::default() }
     }
 
-    #[tokio::test]
-    async fn what_a_refusal_means() {
-        const NO: Completed = Completed::No;
-        const MAYBE: Completed = Completed::Maybe;
-        let maybe = || Next::Done(Answer::system("TIMEOUT", 0, Completed::Maybe));
-        // (whether it is told as void, how many others are loose, and what follows, if not the reply)
-        for (name, minor, completed, void, loose, next) in [
-            // a guard tells what is its own
-            ("TRANSIENT", DECLINED, NO, Some(true), 0, Some(Next::Again)),
-            ("TRANSIENT", DECLINED, NO, Some(true), 1, Some(Next::Again)),
-            ("NO_RESOURCES", DECLINED, NO, Some(true), 2, Some(Next::Again)),
-            ("BAD_CONTEXT", 0, NO, Some(true), 0, None),
-            ("BAD_CONTEXT", 0, NO, Some(true), 1, Some(maybe())),
-            // .. and what a server says arrives, though that is a guard too
-            ("TRANSIENT", DECLINED, NO, Some(false), 0, None),
-            ("NO_RESOURCES", DECLINED, NO, Some(false), 3, None),
-            ("TRANSIENT", 0, MAYBE, Some(false), 1, None),
-            ("BAD_CONTEXT", 0, NO, Some(false), 1, None),
-            ("COMM_FAILURE", 0, MAYBE, Some(false), 1, None),
-            // .. and of one that tells nothing
-            ("TRANSIENT", DECLINED, NO, None, 0, Some(Next::Again)),
-            ("NO_RESOURCES", DECLINED, NO, None, 1, Some(Next::Again)),
-            ("TRANSIENT", 0, NO, None, 0, None),
-            ("TRANSIENT", 0, MAYBE, None, 1, None),
-            ("TRANSIENT", DECLINED, MAYBE, None, 1, None),
-            ("TRANSIENT", DECLINED, Completed::Yes, None, 0, None),
-            ("NO_RESOURCES", 0, NO, None, 1, None),
-            ("NO_PERMISSION", DECLINED, NO, None, 0, None),
-            ("NO_PERMISSION", DECLINED, NO, None, 1, Some(maybe())),
-            ("NO_PERMISSION", 0, NO, None, 1, None),
-            ("BAD_CONTEXT", 0, NO, None, 0, None),
-            ("BAD_CONTEXT", 0, NO, None, 1, Some(maybe())),
-        ] {
+    const NO: Completed = Completed::No;
+    const MAYBE: Completed = Completed::Maybe;
+
+    /// A system exception, whether it is told as void, how many others are loose, and what follows, if
+    /// not the reply.
+    type Row = (&'static str, u32, Completed, Option<bool>, u32, Option<Next>);
+
+    fn maybe() -> Option<Next> {
+        Some(Next::Done(Answer::system("TIMEOUT", 0, MAYBE)))
+    }
+
+    async fn follows(rows: impl IntoIterator<Item = Row>) {
+        for (name, minor, completed, void, loose, next) in rows {
             let relay = relay(&["127.0.0.1:1"]);
             let mut reply = of(Outcome::system(name, minor, completed));
             let wanted = next.unwrap_or_else(|| Next::Done(passed(reply.clone())));
@@ -568,6 +557,47 @@ mod tests {
             assert_eq!(next, wanted, "{name} {minor} {completed:?} {void:?} {loose}");
             assert_eq!(relay.guards[0].mark(), void.map(|_| mark(1)));
         }
+    }
+
+    #[tokio::test]
+    async fn what_a_refusal_means_of_a_guard_that_tells() {
+        // its own
+        follows([
+            ("TRANSIENT", DECLINED, NO, Some(true), 0, Some(Next::Again)),
+            ("TRANSIENT", DECLINED, NO, Some(true), 1, Some(Next::Again)),
+            ("NO_RESOURCES", DECLINED, NO, Some(true), 2, Some(Next::Again)),
+            ("BAD_CONTEXT", 0, NO, Some(true), 0, None),
+            ("BAD_CONTEXT", 0, NO, Some(true), 1, maybe()),
+        ])
+        .await;
+        // what a server says arrives, though that is a guard too
+        follows([
+            ("TRANSIENT", DECLINED, NO, Some(false), 0, None),
+            ("NO_RESOURCES", DECLINED, NO, Some(false), 3, None),
+            ("TRANSIENT", 0, MAYBE, Some(false), 1, None),
+            ("BAD_CONTEXT", 0, NO, Some(false), 1, None),
+            ("COMM_FAILURE", 0, MAYBE, Some(false), 1, None),
+        ])
+        .await;
+    }
+
+    #[tokio::test]
+    async fn what_a_refusal_means_of_one_that_tells_nothing() {
+        follows([
+            ("TRANSIENT", DECLINED, NO, None, 0, Some(Next::Again)),
+            ("NO_RESOURCES", DECLINED, NO, None, 1, Some(Next::Again)),
+            ("TRANSIENT", 0, NO, None, 0, None),
+            ("TRANSIENT", 0, MAYBE, None, 1, None),
+            ("TRANSIENT", DECLINED, MAYBE, None, 1, None),
+            ("TRANSIENT", DECLINED, Completed::Yes, None, 0, None),
+            ("NO_RESOURCES", 0, NO, None, 1, None),
+            ("NO_PERMISSION", DECLINED, NO, None, 0, None),
+            ("NO_PERMISSION", DECLINED, NO, None, 1, maybe()),
+            ("NO_PERMISSION", 0, NO, None, 1, None),
+            ("BAD_CONTEXT", 0, NO, None, 0, None),
+            ("BAD_CONTEXT", 0, NO, None, 1, maybe()),
+        ])
+        .await;
     }
 
     #[tokio::test]

@@ -13,7 +13,7 @@
 
 use crate::compose::LONGEST;
 use crate::front::Bounds;
-use crate::memory::Memory;
+use crate::live::Live;
 use crate::near::{OfClients, OfServers};
 use crate::pool::{Terms, CLASSES};
 use crate::store::Store;
@@ -26,6 +26,7 @@ use std::fmt::Display;
 use std::fs;
 use std::num::NonZero;
 use std::path::{Path, PathBuf};
+use std::sync::Arc;
 use std::thread;
 use std::time::Duration;
 use tokio::net::TcpListener;
@@ -180,10 +181,14 @@ pub struct Common {
 impl Common {
     /// How connections are opened by who listens so.
     #[must_use]
-    pub fn terms(&self, unconfirmed: Duration, listeners: &[TcpListener]) -> Terms {
-        let (most, idle, own) = (self.connections, self.limits.idle, front::places_of(listeners));
-        let stalled = (self.timeout / 4).max(Duration::from_secs(1));
-        Terms { tls: None, most, idle, unconfirmed, stalled, is_guard: false, own }
+    pub fn terms(
+        &self,
+        live: &Arc<Live>,
+        unconfirmed: Duration,
+        listeners: &[TcpListener],
+    ) -> Terms {
+        let (most, live, own) = (self.connections, live.clone(), front::places_of(listeners));
+        Terms { tls: None, most, live, unconfirmed, is_guard: false, own }
     }
 
     /// How many threads serve, each by connections of its own to a server or a guard: one for two
@@ -194,14 +199,11 @@ impl Common {
         processors.div_ceil(2).min(self.connections)
     }
 
-    /// What clients may take, of which one client id may have so many requests under way, where so
-    /// many servers or guards have connections of their own.
+    /// What clients may take, where so many servers or guards have connections of their own.
     #[must_use]
-    pub fn bounds(&self, share: usize, upstreams: usize) -> Bounds {
-        let (limits, drain, threads) = (self.limits.clone(), self.drain, self.threads());
+    pub fn bounds(&self, live: &Arc<Live>, upstreams: usize) -> Bounds {
         let lines = upstreams.saturating_mul(self.connections).saturating_mul(CLASSES);
-        let memory = Memory::new(self.limits.memory);
-        Bounds { limits, share, memory, lines, drain, threads }
+        Bounds { live: live.clone(), lines, threads: self.threads() }
     }
 }
 
@@ -213,7 +215,7 @@ pub enum Log {
 }
 
 /// What peers may take.
-#[derive(Clone, Debug, Args)]
+#[derive(Clone, Debug, Default, Args)]
 #[command(next_help_heading = OF_LIMITS)]
 pub struct Limits {
     /// Requests under way at most; of one address less than three quarters of them
@@ -427,7 +429,16 @@ impl Words {
     ///
     /// Each fault, in a line.
     pub fn read(words: impl IntoIterator<Item = OsString>) -> Result<Words, Vec<String>> {
-        let words = parse(&Words::whole(words)?).map_err(|why| vec![why])?;
+        Words::of(&Words::whole(words)?)
+    }
+
+    /// What words say, behind which those of their file stand.
+    ///
+    /// # Errors
+    ///
+    /// Each fault, in a line.
+    pub fn of(whole: &[OsString]) -> Result<Words, Vec<String>> {
+        let words = parse(whole).map_err(|why| vec![why])?;
         let missing = words.role.missing();
         if missing.is_empty() {
             Ok(words)
@@ -637,9 +648,10 @@ mod tests {
         fs::remove_file(file).unwrap();
     }
 
+    const GOOD: &str = "[guard]\nlisten = 'a:1'\nserver = 'b:2'\nstore = 'memory'\n";
+
     #[test]
     fn each_fault_has_its_place() {
-        const GOOD: &str = "[guard]\nlisten = 'a:1'\nserver = 'b:2'\nstore = 'memory'\n";
         for (name, text, faults) in [
             ("good", "", vec![]),
             ("syntax", "x = \n", vec!["5|"]),
@@ -672,6 +684,10 @@ mod tests {
         ] {
             finds(name, &format!("{GOOD}{text}"), &faults);
         }
+    }
+
+    #[test]
+    fn a_store_has_its_faults() {
         for (name, store, fault) in [
             ("store", "store = 'postgres://a b:c'\n", "|[guard] store: "),
             ("folder", "store = '/nowhere/x'\n", "|[guard] /nowhere/x: "),

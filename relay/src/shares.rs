@@ -71,10 +71,14 @@ impl Owner {
     }
 }
 
+/// Who have waited, and get places.
+type Turns = Vec<(oneshot::Sender<Place>, Place)>;
+
 /// A request that waits for a place.
 type Waiter = (Owner, oneshot::Sender<Place>);
 
 struct State {
+    most: Most,
     taken: usize,
     addresses: Counts<IpAddr>,
     clients: Counts<Vec<u8>>,
@@ -92,7 +96,6 @@ pub struct Most {
 
 /// The places of requests under way.
 pub struct Shares {
-    most: Most,
     state: Mutex<State>,
 }
 
@@ -112,8 +115,18 @@ impl Shares {
     #[must_use]
     pub fn new(most: Most) -> Arc<Shares> {
         let (addresses, clients) = (Counts::new(), Counts::new());
-        let state = State { taken: 0, addresses, clients, waiting: VecDeque::new() };
-        Arc::new(Shares { most, state: Mutex::new(state) })
+        let state = State { most, taken: 0, addresses, clients, waiting: VecDeque::new() };
+        Arc::new(Shares { state: Mutex::new(state) })
+    }
+
+    /// So many may be under way from now on. (Who waits for a place looks when one is given back.)
+    pub fn becomes(self: &Arc<Self>, most: Most) {
+        let given = {
+            let mut state = locked(&self.state);
+            state.most = most;
+            self.gives(&mut state)
+        };
+        tell(given);
     }
 
     /// The share of a connection from an address.
@@ -125,21 +138,21 @@ impl Shares {
     }
 
     /// Whether there is a place for one more.
-    fn may(&self, owner: &Owner, taken: usize) -> bool {
-        let free = self.most.of_all.saturating_sub(taken);
+    fn may(owner: &Owner, most: Most, taken: usize) -> bool {
+        let free = most.of_all.saturating_sub(taken);
         let is_left = match &owner.client {
-            Some(client) => of(client) < self.most.of_client,
-            None => of(&owner.connection) < self.most.of_connection,
+            Some(client) => of(client) < most.of_client,
+            None => of(&owner.connection) < most.of_connection,
         };
         let has_none = owner.client.as_ref().map_or(of(&owner.connection), of) == 0;
-        let (all, sum) = (self.most.of_all, owner.counts().map(of).sum::<usize>());
+        let (all, sum) = (most.of_all, owner.counts().map(of).sum::<usize>());
         let (part, whole) = if has_none { (1, 1) } else { (free, all) };
         is_left && sum.saturating_mul(whole) < PART.saturating_mul(free).saturating_mul(part)
     }
 
     /// Takes a place, where there is one.
     fn take(self: &Arc<Self>, state: &mut State, owner: &Owner) -> Option<Place> {
-        if !self.may(owner, state.taken) {
+        if !Shares::may(owner, state.most, state.taken) {
             return None;
         }
         state.taken += 1;
@@ -150,19 +163,24 @@ impl Shares {
     }
 
     /// Gives a place back, and answers who gets one by that.
-    fn leave(self: &Arc<Self>, owner: &Owner) -> Vec<(oneshot::Sender<Place>, Place)> {
+    fn leave(self: &Arc<Self>, owner: &Owner) -> Turns {
         let mut state = locked(&self.state);
         state.taken -= 1;
         for count in owner.counts() {
             count.fetch_sub(1, Ordering::Relaxed);
         }
+        self.gives(&mut state)
+    }
+
+    /// Looks who of those that wait first gets a place.
+    fn gives(self: &Arc<Self>, state: &mut State) -> Turns {
         let mut given = Vec::new();
         for _ in 0..state.waiting.len().min(LOOK) {
             let Some((owner, told)) = state.waiting.pop_front() else { break };
             if told.is_closed() {
                 continue;
             }
-            match self.take(&mut state, &owner) {
+            match self.take(state, &owner) {
                 Some(place) => given.push((told, place)),
                 None => state.waiting.push_back((owner, told)),
             }
@@ -171,12 +189,16 @@ impl Shares {
     }
 }
 
+/// Tells those who get places. (Who is gone by now gives it back.)
+fn tell(turns: Turns) {
+    for (told, place) in turns {
+        _ = told.send(place);
+    }
+}
+
 impl Drop for Place {
     fn drop(&mut self) {
-        for (told, place) in self.shares.leave(&self.owner) {
-            // (who is gone by now gives it back)
-            _ = told.send(place);
-        }
+        tell(self.shares.leave(&self.owner));
     }
 }
 
@@ -192,7 +214,7 @@ impl Share {
     pub async fn place_of(&self, client: &[u8]) -> Option<Place> {
         let asked = {
             let mut state = locked(&self.shares.state);
-            let (most, client) = (self.shares.most, state.clients.of(client));
+            let (most, client) = (state.most, state.clients.of(client));
             if of(&client) >= most.of_client || state.waiting.len() >= most.of_all {
                 return None;
             }
@@ -359,6 +381,22 @@ mod tests {
         assert!(poll!(&mut waiting[1]).is_pending());
         drop(second);
         assert!(matches!(poll!(&mut waiting[1]), Poll::Ready(Some(_))));
+    }
+
+    #[tokio::test]
+    async fn those_who_wait_go_by_what_may_be_now() {
+        let shares = shares(1, 256, 1);
+        let share = shares.share(address(1));
+        let _first = share.place().await;
+        let other = shares.share(address(2));
+        let mut waits = Box::pin(other.place());
+        assert!(poll!(&mut waits).is_pending());
+        shares.becomes(Most { of_all: 99, of_connection: 256, of_client: 2 });
+        let Poll::Ready(Some(_second)) = poll!(&mut waits) else { panic!("it has no place") };
+        let _third = other.place_of(b"one").await;
+        assert!(matches!(poll!(pin!(share.place_of(b"one"))), Poll::Ready(Some(_))));
+        shares.becomes(Most { of_all: 99, of_connection: 256, of_client: 1 });
+        assert!(other.place_of(b"one").await.is_none());
     }
 
     #[tokio::test]

@@ -19,7 +19,7 @@ from tests.programs import needs
 from tests.relay import relays
 from tests.relay.guard_test import KEY, Server, system
 from tests.relay.operation_test import Counters, counted, said_by
-from tests.relay.relays import Life, Relay
+from tests.relay.relays import Calling, Life, Relay, judge
 
 # what `openssl ca` is told of the authority `ours`
 CA = """
@@ -395,7 +395,7 @@ class Renewal(Certified):
         words = "[guard]\nlisten = '127.0.0.1:{}'\nserver = '127.0.0.1:{}'\nstore = 'memory'\n"
         with Server() as server:
             port = relays.free_port()
-            words = words.format(port, server.port) + "key = '{0}.key'\ncertificate = '{0}.pem'\ntimeout = {1}\n"
+            words = words.format(port, server.port) + "key = '{0}.key'\ncertificate = '{0}.pem'\nconnections = {1}\n"
             settings = self.folder.write("settings.toml", words.format(self.file("guard"), 7))
             with Life(relays.program(), "guard", "--config", settings) as guard:
                 guard.port = port
@@ -403,7 +403,7 @@ class Renewal(Certified):
                 until(lambda: "listening" in guard.said(), "it listens")
                 old = self.shown(guard)
                 self.folder.write("settings.toml", words.format(self.file("second"), 8))
-                self.renew(guard, 'setting="certificate"', 'it can\'t change without a restart setting="timeout"')
+                self.renew(guard, 'setting="certificate"', 'needs a restart setting="connections"')
                 self.assertNotEqual(self.shown(guard), old)
                 self.folder.write("settings.toml", words.format(self.file("second"), 8) + "store = \n")
                 self.renew(guard, " ERROR ", f"{settings}:8: ")
@@ -466,6 +466,87 @@ class Near(Certified):
                     ask(guard.port, request(1, KEY, "add", number=1), answer)
                     until(lambda: not why or said_at_warn(guard, why), why)
             want(len(server.performed), 1)
+
+
+@needs("openssl")
+class Orbs(Certified):
+    """Clients and servers of omniORB that speak TLS alone, by references with TAG_SSL_SEC_TRANS."""
+
+    @classmethod
+    def setUpClass(cls):
+        super().setUpClass()
+        relays.orbs(True)
+
+    def tls(self, name: str) -> tuple[str, ...]:
+        """What omniORB is told that shows a certificate, and trusts `ours`."""
+        parts = []
+        for kind in ("pem", "key"):
+            with open(self.file(f"{name}.{kind}"), encoding="ascii") as file:
+                parts.append(file.read())
+        both = self.folder.write(f"{name}.both", "".join(parts))
+        return "-ORBsslCAFile", self.file("ours.pem"), "-ORBsslKeyFile", both, "-ORBsslKeyPassword", ""
+
+    @contextlib.contextmanager
+    def server(self, published: int | None, hops: tuple[str, ...] = (), tls: str | None = "other") -> Iterator[relays.Server]:
+        with tempfile.TemporaryDirectory() as folder, \
+                relays.Server(folder, published, hops, self.tls(tls) if tls else ()) as server:
+            server.begin()
+            yield server
+
+    @contextlib.contextmanager
+    def before(self, server: relays.Server, *words: str, port: int | None = None) -> Iterator[Relay]:
+        """A guard before a server, which it finds by words or at its port."""
+        words = words or ("--server", f"127.0.0.1:{server.port}")
+        near = ("--server-authorities", self.file("ours.pem"), "--server-certificate", self.file("guard.pem"),
+                "--server-key", self.file("guard.key"))
+        with Relay("guard", "--store", "memory", *self.words("guard"), *near, *words, port=port) as guard:
+            guard.begin()
+            yield guard
+
+    def led(self, reference: str, relay: Relay) -> str:
+        """The reference that leads to a relay."""
+        status, out, err = said_by("ior", "--tls", "--at", f"127.0.0.1:{relay.port}", reference)
+        want((status, err), (0, ""))
+        return out.strip()
+
+    def returns(self, reference: str, server: relays.Server, kind: str = "0", client: str = "retry") -> None:
+        """Calls return, each of which the server performed once."""
+        calling = Calling(reference, f"call-{len(server.performed())}", 5, 2, kind, tls=self.tls(client))
+        want(dict(judge(calling.answers(relays.SECONDS), server.performed())), {"returned": 5})
+
+    def test_a_reference_that_is_made(self):
+        """By the server's own the guard finds it, and clients find the guard by what `ior --tls` makes of that."""
+        with self.server(None) as server:
+            file = self.folder.write("server.ior", server.reference)
+            with self.before(server, "--reference", file) as guard:
+                self.returns(self.led(server.reference, guard), server)
+
+    @base.each(lambda: [(" ".join(hops) or "itself", hops) for hops in ((), ("1", "once"), ("1", "good"), ("3", "once"))])
+    def test_a_reference_that_is_published(self, hops: tuple[str, ...]) -> None:
+        """The server's references lead to the guard, and so do those by which it forwards."""
+        port = relays.free_port()
+        with self.server(port, hops) as server, self.before(server, port=port):
+            self.returns(server.reference, server)
+
+    def test_through_both(self):
+        """TLS on each connection: to clients, between the relays, and to the server, which forwards."""
+        with self.server(None, ("1", "once")) as server, self.before(server) as guard, \
+                Relay("retry", "--guard", f"127.0.0.1:{guard.port}", *self.words("retry"), "--listen-certificate",
+                      self.file("guard.pem"), "--listen-key", self.file("guard.key")) as retry:
+            retry.begin()
+            for reference in server.references:
+                self.returns(self.led(reference, retry), server)
+
+    def test_a_stranger(self):
+        """A client or a server whose certificate is of another authority performs nothing."""
+        for client, behind in (("stranger", "other"), ("retry", "stranger")):
+            with self.subTest(client), self.server(None, tls=behind) as server, self.before(server) as guard:
+                calling = Calling(self.led(server.reference, guard), "call", 1, tls=self.tls(client))
+                (told,) = calling.answers(relays.SECONDS).values()
+                want(told.split()[0] in ("TRANSIENT", "COMM_FAILURE"), True, told)
+                want(sum(server.performed().values()), 0)
+                why = "no handshake" if client == "stranger" else "certificate verify failed"
+                until(lambda why=why, guard=guard: said_at_warn(guard, why), why)
 
 
 if __name__ == "__main__":

@@ -17,12 +17,13 @@ from typing import NamedTuple
 
 from tests import base, giop
 from tests.giop import NO
-from tests.giop_peers import Peer, request, until
+from tests.giop_peers import Peer, number_body, request, until, want
 from tests.relay import relays
-from tests.relay.guard_test import DECLINED, system
+from tests.relay.guard_test import DECLINED, Server, guarded, system
 from tests.relay.hostile_test import Asynchronous
 from tests.relay.operation_test import Counters
 from tests.relay.relays import Relay
+from tests.relay.retry_test import STORE
 
 MIB = 1 << 20
 
@@ -204,6 +205,105 @@ class Memory(unittest.TestCase):
             self.assertLess(scenes.slowest, 10)
             self.assertLess(scenes.held(), SMALL.memory * MIB)
             self.assertLess(resident(scenes.relay.process.pid), 1.2 * SMALL.memory * MIB)
+
+
+# what a guard that is over tells `retry`: that it lives
+SIGN = giop.located(0, giop.OBJECT_HERE)
+# so little that a few requests of HALF octets are a third of it
+SHORT = ("--message", str(MIB), "--memory", "8M")
+HALF, COUNT = MIB // 2, 12
+
+
+class Tap:
+    """A way to a port, by which each connection is counted, and what comes back is kept."""
+
+    def __init__(self, port: int) -> None:
+        self.target, self.count, self.back = port, 0, bytearray()
+        self.listener = socket.create_server(("127.0.0.1", 0))
+        self.port = self.listener.getsockname()[1]
+        threading.Thread(target=self.accept, daemon=True).start()
+
+    def accept(self) -> None:
+        with contextlib.suppress(OSError):
+            while True:
+                near, _ = self.listener.accept()
+                far = socket.create_connection(("127.0.0.1", self.target))
+                self.count += 1
+                for way in ((near, far, bytearray()), (far, near, self.back)):
+                    threading.Thread(target=self.passes, args=way, daemon=True).start()
+
+    def passes(self, source: socket.socket, to: socket.socket, kept: bytearray) -> None:
+        with contextlib.suppress(OSError):
+            while octets := source.recv(1 << 16):
+                kept += octets
+                to.sendall(octets)
+        with contextlib.suppress(OSError):
+            to.shutdown(socket.SHUT_RDWR)
+
+    def __enter__(self) -> Tap:
+        return self
+
+    def __exit__(self, *_: object) -> None:
+        with contextlib.suppress(OSError):
+            self.listener.shutdown(socket.SHUT_RDWR)
+        self.listener.close()
+
+
+class Signs(unittest.TestCase):
+    """A guard that is over its memory hears nobody: `retry` is told that it lives."""
+
+    @classmethod
+    def setUpClass(cls):
+        relays.program()
+
+    @contextlib.contextmanager
+    def held(self, server: Server) -> Iterator[threading.Event]:
+        """A server that answers nothing until it is told to."""
+        may_go_on = threading.Event()
+        server.answer = lambda came: may_go_on.wait(relays.SECONDS) and giop.reply(came.request_id)
+        try:
+            yield may_go_on
+        finally:
+            may_go_on.set()
+
+    def floods(self, peer: Peer) -> None:
+        """Has a peer send more than one may hold."""
+        octets = b"".join(request(index, b"k", "hang", bytes(HALF)) for index in range(COUNT))
+        threading.Thread(target=peer.tell, args=(octets,), daemon=True).start()
+
+    def answered(self, peer: Peer) -> list[int]:
+        """The ids of the requests that are answered next, as many as there were."""
+        replies = (message for message in iter(peer.message, None) if message.kind == giop.REPLY)
+        return sorted(next(replies).request_id for _ in range(COUNT))
+
+    def test_retry_alone_is_told(self):
+        """Again and again, while nothing is due to it; another client gets what it asked for alone."""
+        with guarded(*SHORT) as (server, guard), Peer(guard.port) as retry, Peer(guard.port) as other:
+            retry.tell(giop.request(1, b"k", "add", contexts=[(STORE, b"\0")]))
+            retry.wants(giop.reply(1, number_body(1)))
+            with self.held(server) as may_go_on:
+                for peer in (retry, other):
+                    self.floods(peer)
+                for _ in range(3):
+                    retry.wants(SIGN)
+                other.socket.setblocking(False)
+                self.assertRaises(BlockingIOError, other.socket.recv, 1)
+                other.socket.settimeout(relays.SECONDS)
+                may_go_on.set()
+                for peer in (retry, other):
+                    want(self.answered(peer), list(range(COUNT)))
+
+    def test_nothing_is_sent_again(self):
+        """However long it hears nobody: it has all that was sent on one connection."""
+        with guarded(*SHORT) as (server, guard), Tap(guard.port) as tap, \
+                Relay("retry", "--guard", f"127.0.0.1:{tap.port}", "--connections", "1") as retry:
+            retry.begin()
+            with Peer(retry.port) as peer, self.held(server) as may_go_on:
+                self.floods(peer)
+                until(lambda: tap.back.count(SIGN) >= 8, "it is over for eight seconds")
+                may_go_on.set()
+                want(self.answered(peer), list(range(COUNT)))
+            want((tap.count, len(server.performed)), (1, COUNT))
 
 
 def main(names: list[str]) -> None:

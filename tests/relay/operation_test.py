@@ -356,6 +356,137 @@ class Limits(unittest.TestCase):
             may_go_on.set()
 
 
+# ---- settings that change ----
+
+class Settings:
+    """A relay that is begun by a file of settings, which is written anew while it runs."""
+
+    def __init__(self, folder: str, role: str, **settings: object) -> None:
+        self.file, self.port, self.role = os.path.join(folder, "settings.toml"), relays.free_port(), role
+        self.settings = {"listen": f"127.0.0.1:{self.port}", **settings}
+        self.write()
+        self.relay = relays.Life(relays.program(), role, "--config", self.file)
+
+    def write(self, **others: object) -> None:
+        """Has the file say other things of some settings, and what it said of the others."""
+        self.settings.update(others)
+        with open(self.file, "w", encoding="ascii") as to:
+            to.write(f"[{self.role}]\n" + "".join(f"{name.replace('_', '-')} = {value!r}\n"
+                                                 for name, value in self.settings.items() if value is not None))
+
+    def change(self, **others: object) -> list[tuple[str, ...]]:
+        """Writes the file anew, has it read, and answers what the log says of each setting then."""
+        self.write(**others)
+        before = len(self.relay.said())
+        self.relay.tell(signal.SIGHUP)
+        until(lambda: re.search("SIGHUP: .*\n", self.relay.said()[before:]) is not None, "it is read anew")
+        return re.findall(r'(changed|needs a restart|nothing is changed) (?:setting|why)="(.*?)"(?: value="(.*)")?',
+                          self.relay.said()[before:])
+
+
+class Changes(unittest.TestCase):
+    """Settings that are read anew at SIGHUP, while connections and what is under way go on."""
+
+    @classmethod
+    def setUpClass(cls):
+        relays.program()
+
+    @contextlib.contextmanager
+    def changing(self, role: str = "guard", **others: object) -> Iterator[tuple[Server, Settings, Peer]]:
+        """A server, a relay before it, and a client that was answered."""
+        with tempfile.TemporaryDirectory() as folder, Server() as server:
+            to = {"server": f"127.0.0.1:{server.port}", "store": "memory"} if role == "guard" else {
+                "guard": f"127.0.0.1:{server.port}"}
+            settings = Settings(folder, role, **to, **others)
+            with settings.relay as relay:
+                relay.begin()
+                with Peer(settings.port) as peer:
+                    peer.tell(request(1, KEY, "add"))
+                    peer.wants(giop.reply(1, number_body(1)))
+                    yield server, settings, peer
+
+    def test_times_and_shares(self):
+        """They count at once, also on a connection that is there."""
+        with self.changing() as (server, settings, peer):
+            now = int((time.time() + 12_219_292_800) * 10_000_000)
+            want(settings.change(keep=100), [("changed", "keep", "100")])
+            peer.tell(request(2, KEY, "add", number=1, expiration=now + 10 ** 10))
+            peer.wants(system(2, "BAD_CONTEXT", NO))
+            want(sorted(settings.change(keep=None, timeout=0.5, share=1)),
+                 [("changed", "keep", ""), ("changed", "share", "1"), ("changed", "timeout", "0.5")])
+            server.answer = lambda _: QUIET
+            peer.tell(request(3, KEY, "add", number=1, expiration=now + 10 ** 10) + request(4, KEY, "add", number=2))
+            peer.wants(system(4, "NO_RESOURCES", NO, 0xfffff001))
+            peer.wants(system(3, "TIMEOUT", MAYBE))
+            want(settings.change(), [])
+
+    def test_connections(self):
+        """Those that come go by what is said now, and those that are there go on."""
+        with self.changing() as (server, settings, peer):
+            want(sorted(settings.change(peers=2, message=5000)), [("changed", "message", "5000"), ("changed", "peers", "2")])
+            with Peer(settings.port) as second:
+                second.tell(request(1, KEY, "any", bytes(6000)))
+                second.wants(system(1, "IMP_LIMIT", NO))
+                with Peer(settings.port) as third:
+                    third.ended()
+                settings.change(peers=3, peers_per_address=2)
+                with Peer(settings.port) as third:
+                    third.ended()
+                settings.change(peers_per_address=3)
+                with Peer(settings.port) as third:
+                    third.tell(giop.locate(1, KEY))
+                    third.wants(giop.located(1, giop.OBJECT_HERE))
+            peer.tell(request(2, KEY, "add", bytes(6000)))
+            peer.wants(giop.reply(2, number_body(2)))
+
+    def test_memory(self):
+        """Where less may be held than is, nobody is heard that comes, until more may."""
+        with self.changing(message=4096) as (_, settings, peer):
+            with Peer(settings.port) as second:
+                second.tell(giop.locate(1, KEY))
+                second.wants(giop.located(1, giop.OBJECT_HERE))
+                want(settings.change(memory="17K"), [("changed", "memory", "17K")])
+                with Peer(settings.port) as third:
+                    third.ended()
+                peer.tell(request(2, KEY, "add"))
+                settings.change(memory="1G")
+                peer.wants(giop.reply(2, number_body(2)))
+
+    def test_the_end(self):
+        """What is under way has the time then that is said last."""
+        with self.changing(drain=600) as (server, settings, peer):
+            server.answer = lambda _: QUIET
+            peer.tell(request(2, KEY, "add"))
+            until(lambda: len(server.performed) == 2, "it is under way")
+            settings.change(drain=0.2)
+            settings.relay.tell(signal.SIGTERM)
+            until(settings.relay.died, "it ends")
+            self.assertIn("the time to end in is over", settings.relay.said())
+            want(settings.relay.end(), 0)
+
+    def test_of_retry(self):
+        """How long it sends."""
+        with self.changing("retry") as (server, settings, peer):
+            want(settings.change(timeout=0.5), [("changed", "timeout", "0.5")])
+            server.answer = lambda _: QUIET
+            peer.tell(request(2, KEY, "add"))
+            peer.wants(system(2, "TIMEOUT", MAYBE))
+
+    def test_what_needs_a_restart(self):
+        """It is named each time until it is as it was, and all else changes; where anything is wrong nothing does."""
+        with self.changing() as (_, settings, peer):
+            server = settings.settings["server"]
+            restart = [("needs a restart", "connections", ""), ("needs a restart", "server", "")]
+            want(sorted(settings.change(server="127.0.0.1:1", connections=2, timeout=9)),
+                 [("changed", "timeout", "9"), *restart])
+            want(sorted(settings.change(server="127.0.0.1:2")), restart)
+            peer.tell(request(2, KEY, "add"))
+            peer.wants(giop.reply(2, number_body(2)))
+            (said,) = settings.change(server=server, share=1, memory=1)
+            want((said[0], "no room for 4 messages" in said[1]), ("nothing is changed", True))
+            want(sorted(settings.change(memory=None)), [("changed", "share", "1"), restart[0]])
+
+
 # ---- stores ----
 
 class Stores(unittest.TestCase):

@@ -58,14 +58,14 @@ def pointed() -> str:
 
 
 @functools.lru_cache(maxsize=None)
-def orbs() -> str:
-    """The folder of a client and a server of omniORB."""
-    return compiled(os.path.join(HERE, "calls.idl"), server=os.path.join(HERE, "orb_server.cc"),
-                    client=os.path.join(HERE, "orb_client.cc"))
+def orbs(is_tls: bool = False) -> str:
+    """The folder of a client and a server of omniORB, which may have its transport of TLS."""
+    return compiled(os.path.join(HERE, "calls.idl"), ("-Wl,--no-as-needed", "-lomnisslTP4") if is_tls else (),
+                    server=os.path.join(HERE, "orb_server.cc"), client=os.path.join(HERE, "orb_client.cc"))
 
 
-def compiled(idl: str, **sources: str) -> str:
-    """A folder of programs of omniORB over stubs of an interface."""
+def compiled(idl: str, libraries: tuple[str, ...] = (), **sources: str) -> str:
+    """A folder of programs of omniORB over stubs of an interface, and perhaps more libraries."""
     if not os.path.exists("/usr/include/omniORB4/CORBA.h"):
         raise unittest.SkipTest(NEEDS + "libomniorb4-dev")
     folder = tempfile.mkdtemp(prefix="orbs-")
@@ -74,7 +74,7 @@ def compiled(idl: str, **sources: str) -> str:
     commands = [[tool("omniidl"), "-bcxx", idl]]
     for name, source in sources.items():
         commands.append([tool("g++"), "-std=c++17", "-O0", "-I.", "-o", name, source, stubs, "-lomniORB4", "-lomnithread",
-                         "-pthread"])
+                         *libraries, "-pthread"])
     for words in commands:
         ran = subprocess.run(words, cwd=folder, capture_output=True, text=True, check=False)
         if ran.returncode != 0:
@@ -183,16 +183,18 @@ class Relay(Life):
 
 
 class Server(Life):
-    """A server of omniORB that keeps what it performed in a file; its references lead to another port.
+    """A server of omniORB that keeps what it performed in a file; its references lead to another port where one is given.
 
-    With `hops`, how many and how, and so on, it has more references, of objects whose calls a ServantLocator forwards."""
+    With `hops`, how many and how, and so on, it has more references, of objects whose calls a ServantLocator forwards.
+    With words of `tls` it listens over that alone."""
 
-    def __init__(self, folder: str, published: int, hops: tuple[str, ...] = ()) -> None:
+    def __init__(self, folder: str, published: int | None, hops: tuple[str, ...] = (), tls: tuple[str, ...] = ()) -> None:
         self.port, self.file = free_port(), os.path.join(folder, "performed")
-        ends = ["-ORBendPoint", f"giop:tcp:127.0.0.1:{self.port}"]
-        ends += ["-ORBendPointPublish", f"giop:tcp:127.0.0.1:{published}"]
+        end = "giop:ssl:127.0.0.1" if tls else "giop:tcp:127.0.0.1"
+        ends = ["-ORBendPoint", f"{end}:{self.port}"]
+        ends += [] if published is None else ["-ORBendPointPublish", f"{end}:{published}"]
         self.count = 1 + len(hops) // 2
-        super().__init__(os.path.join(orbs(), "server"), self.file, *hops, *ends, *LONG)
+        super().__init__(os.path.join(orbs(bool(tls)), "server"), self.file, *hops, *ends, *LONG, *tls)
 
     def begin(self, dies_at: str = "", stops_at: str = "") -> None:
         super().begin(dies_at, stops_at)
@@ -214,11 +216,11 @@ class Server(Life):
 
 
 class Calling:
-    """An unmodified client of omniORB that makes so many calls, by so many threads."""
+    """An unmodified client of omniORB that makes so many calls, by so many threads; over TLS, if it has words of that."""
 
     def __init__(self, reference: str, name: str, count: int, threads: int = 1, kind: str = "0",
-                 version: str = "1.2") -> None:
-        words = [os.path.join(orbs(), "client"), reference, name, str(count), str(threads), kind, *LONG]
+                 version: str = "1.2", tls: tuple[str, ...] = ()) -> None:
+        words = [os.path.join(orbs(bool(tls)), "client"), reference, name, str(count), str(threads), kind, *LONG, *tls]
         words += ["-ORBmaxGIOPVersion", version]
         self.process = subprocess.Popen(words, stdin=subprocess.DEVNULL, stdout=subprocess.PIPE,
                                         stderr=subprocess.STDOUT, text=True)
