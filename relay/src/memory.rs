@@ -29,6 +29,8 @@ const PAUSES: (Duration, Duration) = (Duration::from_millis(100), Duration::from
 /// What is held in all.
 pub struct Memory {
     most: AtomicUsize,
+    /// How many octets there may be at most, once enough is given back.
+    wanted: AtomicUsize,
     held: AtomicUsize,
 }
 
@@ -61,12 +63,23 @@ impl Memory {
     /// So many octets at most.
     #[must_use]
     pub fn new(most: usize) -> Arc<Memory> {
-        Arc::new(Memory { most: AtomicUsize::new(most), held: AtomicUsize::new(0) })
+        let (most, wanted) = (AtomicUsize::new(most), AtomicUsize::new(most));
+        Arc::new(Memory { most, wanted, held: AtomicUsize::new(0) })
     }
 
-    /// So many from now on.
+    /// So many from now on; or fewer once as much is free as is held, so that nobody is suddenly over.
     pub fn becomes(&self, most: usize) {
-        self.most.store(most, Ordering::Relaxed);
+        self.wanted.store(most, Ordering::Relaxed);
+        self.most.fetch_max(most, Ordering::Relaxed);
+        self.settles();
+    }
+
+    fn settles(&self) {
+        let wanted = self.wanted.load(Ordering::Relaxed);
+        if self.most() > wanted {
+            let enough = self.held.load(Ordering::Relaxed).saturating_mul(2);
+            self.most.fetch_min(wanted.max(enough), Ordering::Relaxed);
+        }
     }
 
     /// An account of somebody for whom nothing is held.
@@ -169,6 +182,7 @@ impl Account {
         self.held.fetch_sub(size, Ordering::Relaxed);
         self.memory.held.fetch_sub(size, Ordering::Relaxed);
         metrics().memory.sub(i64::try_from(size).unwrap_or(0));
+        self.memory.settles();
         self.less.notify_one();
     }
 }
@@ -248,6 +262,27 @@ mod tests {
         drop(little);
         let _all = other.hold(memory.free());
         assert!(other.is_over() && memory.account().is_over());
+    }
+
+    #[test]
+    fn less_may_be_held_as_it_is_given_back() {
+        let memory = Memory::new(100 * MIB);
+        let account = memory.account();
+        let mut held = account.hold(30 * MIB);
+        for (most, holds, free) in [
+            (200, 30, 170),
+            (10, 30, 30),
+            (10, 40, 20),
+            (10, 35, 25),
+            (10, 20, 20),
+            (10, 4, 6),
+            (50, 4, 46),
+            (1, 0, 1),
+        ] {
+            memory.becomes(most * MIB);
+            held.set(holds * MIB);
+            assert_eq!(memory.free(), free * MIB, "{most} {holds}");
+        }
     }
 
     #[tokio::test]

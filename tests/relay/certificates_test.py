@@ -528,14 +528,17 @@ class Orbs(Certified):
         with self.server(port, hops) as server, self.before(server, port=port):
             self.returns(server.reference, server)
 
-    def test_through_both(self):
-        """TLS on each connection: to clients, between the relays, and to the server, which forwards."""
-        with self.server(None, ("1", "once")) as server, self.before(server) as guard, \
+    @base.each(lambda: [("made", False), ("published", True)])
+    def test_through_both(self, is_published: bool) -> None:
+        """TLS on each connection: to clients, between the relays, and to the server, which forwards to itself or to where
+        it is published."""
+        port = relays.free_port()
+        with self.server(port if is_published else None, ("1", "once")) as server, self.before(server) as guard, \
                 Relay("retry", "--guard", f"127.0.0.1:{guard.port}", *self.words("retry"), "--listen-certificate",
-                      self.file("guard.pem"), "--listen-key", self.file("guard.key")) as retry:
+                      self.file("guard.pem"), "--listen-key", self.file("guard.key"), port=port) as retry:
             retry.begin()
             for reference in server.references:
-                self.returns(self.led(reference, retry), server)
+                self.returns(reference if is_published else self.led(reference, retry), server)
 
     def test_a_stranger(self):
         """A client or a server whose certificate is of another authority performs nothing."""

@@ -440,17 +440,15 @@ class Changes(unittest.TestCase):
             peer.wants(giop.reply(2, number_body(2)))
 
     def test_memory(self):
-        """Where less may be held than is, nobody is heard that comes, until more may."""
-        with self.changing(message=4096) as (_, settings, peer):
-            with Peer(settings.port) as second:
-                second.tell(giop.locate(1, KEY))
-                second.wants(giop.located(1, giop.OBJECT_HERE))
-                want(settings.change(memory="17K"), [("changed", "memory", "17K")])
-                with Peer(settings.port) as third:
-                    third.ended()
-                peer.tell(request(2, KEY, "add"))
-                settings.change(memory="1G")
-                peer.wants(giop.reply(2, number_body(2)))
+        """Where less may be held than is, soon nobody is heard that comes, until more may; who is there stays."""
+        with self.changing(message=4096) as (_, settings, peer), contextlib.ExitStack() as stack:
+            want(settings.change(memory="17K"), [("changed", "memory", "17K")])
+            for _ in range(4):
+                stack.enter_context(Peer(settings.port))
+            until(lambda: 'why="memory is short"' in settings.relay.said(), "some find no room")
+            settings.change(memory="1G")
+            peer.tell(request(2, KEY, "add"))
+            peer.wants(giop.reply(2, number_body(2)))
 
     def test_the_end(self):
         """What is under way has the time then that is said last."""
