@@ -32,7 +32,8 @@ SCRIPT = """BEGIN;
 SELECT moment FROM forgotten FOR SHARE;
 SELECT balance FROM account WHERE name = 'p' || :client_id FOR UPDATE;
 UPDATE account SET balance = balance + 7 WHERE name = 'p' || :client_id;
-INSERT INTO outcome VALUES (decode(md5(random()::text), 'hex'), 1, '\\xffffffffffffffff', 0, 0, '\\x0000000000000007');
+INSERT INTO outcome (client, retention, expiration, status, little, body)
+    VALUES (decode(md5(random()::text), 'hex'), 1, '\\xffffffffffffffff', 0, 0, '\\x0000000000000007');
 COMMIT;
 """
 

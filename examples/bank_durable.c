@@ -2,12 +2,13 @@
  * A bank whose accounts and outcomes are one database: bank_durable STORE ADDRESS PORT [SECONDS]. Its interface is
  * bank.idl.
  *
- *     cc -o bank_durable bank_durable.c bank_sqlite.c loop.c $(pkg-config --cflags --libs lemonrudder sqlite3) -pthread
+ *     cc -o bank_durable bank_durable.c bank_sqlite.c loop.c $(pkg-config --variable=sqlite_source lemonrudder) \
+ *         $(pkg-config --cflags --libs lemonrudder sqlite3) -pthread
  *     ./bank_durable bank.db 127.0.0.1 2809
  *
  * STORE is the path of a SQLite file; or memory: and the path of a file by which a bank in memory hands over all that it
- * has, at its end, to the next one. With -DBANK_POSTGRES, bank_postgres.c and libpq it may be an address of PostgreSQL,
- * postgres://.., which several banks may share.
+ * has, at its end, to the next one. With -DBANK_POSTGRES, bank_postgres.c, postgres_source and libpq it may be an address
+ * of PostgreSQL, postgres://.., which several banks may share.
  *
  * It prints its reference, and serves until SIGTERM. A deposit with FT_REQUEST that is sent again acts once, also where
  * the process was killed meanwhile, or another one on the same database was asked first: its outcome is looked up, and
@@ -49,7 +50,7 @@ struct job {
   int64_t amount;
   bool is_sure;       /* it was looked for, and is not there */
   bool is_in_doubt;   /* perhaps it was committed: the store is asked until it says */
-  struct outcome outcome;
+  lr_store_outcome outcome;
   bool is_refused;    /* by `refusal`; else its outcome is answered */
 };
 
@@ -112,8 +113,8 @@ static void complain(void) {
 /* ---- outcomes ---- */
 
 /* Makes an outcome of octets. False where there is no memory. */
-static bool take(struct outcome *outcome, uint32_t status, const unsigned char *octets, size_t size) {
-  *outcome = (struct outcome){status, LR_ORDER_BIG, malloc(size + 1), size};
+static bool take(lr_store_outcome *outcome, uint32_t status, const unsigned char *octets, size_t size) {
+  *outcome = (lr_store_outcome){status, LR_ORDER_BIG, malloc(size + 1), size};
   if (outcome->body != NULL) memcpy(outcome->body, octets, size);
   return outcome->body != NULL || bank_failed("bank_durable", "no memory");
 }
@@ -137,7 +138,7 @@ static bool take_over(struct job *job) {
 }
 
 /* The outcome of a deposit: a balance, or Overdrawn with it. */
-static bool take_balance(struct outcome *outcome, bool is_overdrawn, int64_t balance) {
+static bool take_balance(lr_store_outcome *outcome, bool is_overdrawn, int64_t balance) {
   unsigned char octets[64];
   lr_place out = {.order = LR_ORDER_BIG};
   if (is_overdrawn) lr_put_string(octets, sizeof octets, &out, LR_TEXT(OVERDRAWN));
@@ -205,7 +206,7 @@ static bool perform_all(struct job **jobs, size_t count) {
   if (is_committed) bank_reach("committed"), said[0] = 0;
   for (size_t index = 0; index < count && !is_committed; index++) {
     free(jobs[index]->outcome.body);
-    jobs[index]->outcome = (struct outcome){.body = NULL};
+    jobs[index]->outcome = (lr_store_outcome){.body = NULL};
     jobs[index]->is_in_doubt = jobs[index]->is_in_doubt || (has_begun && is_well);
   }
   if (!is_committed) undo();
@@ -285,7 +286,7 @@ static int64_t answer_unknown(lr_server *server, uint64_t ticket) {
 
 /* Answers a request by what the store has done. What the store keeps is not kept here. */
 static int64_t answer(lr_server *server, const struct job *job) {
-  const struct outcome *it = &job->outcome;
+  const lr_store_outcome *it = &job->outcome;
   if (job->is_refused) return lr_server_refuse(server, job->ticket, (uint32_t)job->refusal, 0);
   if (it->body == NULL) return answer_unknown(server, job->ticket);
   return lr_server_answer_unkept(server, job->ticket, it->status, it->order, it->body, it->size);

@@ -2,9 +2,9 @@
  * A bank whose accounts and outcomes are one database, by lemonrudder_loop.hpp: bank_durable STORE ADDRESS PORT
  * [SECONDS]. Its interface is bank.idl, and its database that of bank_durable.c, by the same bank_store.h.
  *
- *     cc -c bank_sqlite.c $(pkg-config --cflags lemonrudder sqlite3)
- *     c++ -std=c++17 -o bank_durable bank_durable.cpp bank_sqlite.o $(pkg-config --cflags --libs lemonrudder sqlite3) \
- *         -pthread
+ *     cc -c bank_sqlite.c $(pkg-config --variable=sqlite_source lemonrudder) $(pkg-config --cflags lemonrudder sqlite3)
+ *     c++ -std=c++17 -o bank_durable bank_durable.cpp bank_sqlite.o lemonrudder_store_sqlite.o \
+ *         $(pkg-config --cflags --libs lemonrudder sqlite3) -pthread
  *     ./bank_durable bank.db 127.0.0.1 2809
  *
  * It prints its reference, and serves until SIGTERM. A thread does what all requests that wait ask for in one
@@ -142,7 +142,7 @@ class Database {
 
  private:
   std::optional<lr::Outcome> find(const key& named) {
-    outcome kept = {};
+    lr_store_outcome kept = {};
     const int found = kind_.find(&named, &kept);
     if (found < 0) throw Failure();
     if (found == 0) return {};
@@ -151,8 +151,8 @@ class Database {
     return copy;
   }
   void keep(const key& named, lr::Outcome& it) {
-    const outcome kept{static_cast<std::uint32_t>(it.status), static_cast<std::uint32_t>(it.order), it.body.data(),
-                       it.body.size()};
+    const lr_store_outcome kept{static_cast<std::uint32_t>(it.status), static_cast<std::uint32_t>(it.order),
+                                it.body.data(), it.body.size()};
     if (!kind_.keep(&named, &kept)) throw Failure();
   }
   lr::Outcome change(const Order& order) {

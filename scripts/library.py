@@ -32,9 +32,16 @@ PACKAGES = {
 
 # what says below the prefix how the library was made
 NOTE = f"share/doc/{LIBRARY}/TOOLCHAIN"
-# what is made of IDL stands on these: where each is put below the prefix, and its name in idl/
-RUNTIMES = {f"include/{LIBRARY}_idl.h": f"{LIBRARY}_idl.h", f"include/{LIBRARY}_idl.hpp": f"{LIBRARY}_idl.hpp",
-            f"share/{LIBRARY}/{LIBRARY}_idl.c": f"{LIBRARY}_idl.c"}
+# sources that programs compile: what is made of IDL stands on some, and what keeps outcomes in a database on others, with
+# its tables. Where each is put below the prefix, and the folder in which it is
+STORE = os.path.join(EMBED, "store")
+RUNTIMES = {
+    **{f"include/{LIBRARY}_idl.{kind}": IDL for kind in ("h", "hpp")},
+    f"share/{LIBRARY}/{LIBRARY}_idl.c": IDL,
+    f"include/{LIBRARY}_store.h": STORE,
+    **{f"share/{LIBRARY}/{LIBRARY}_store_{kind}.c": STORE for kind in ("sqlite", "postgres")},
+    **{f"share/{LIBRARY}/outcomes.{name}": STORE for name in ("sqlite.h", "sqlite.sql", "postgres.h", "postgres.sql")},
+}
 
 
 def series(version):
@@ -154,9 +161,9 @@ def install(prefix, destdir="", archive=ARCHIVE, is_proved=True):
     make_shared(shared, made)
     for header in os.listdir(os.path.join(EMBED, "include")):
         shutil.copyfile(os.path.join(EMBED, "include", header), os.path.join(include, header))
-    for name, source in RUNTIMES.items():
+    for name, folder in RUNTIMES.items():
         os.makedirs(os.path.dirname(os.path.join(prefix, name)), exist_ok=True)
-        shutil.copyfile(os.path.join(IDL, source), os.path.join(prefix, name))
+        shutil.copyfile(os.path.join(folder, os.path.basename(name)), os.path.join(prefix, name))
     os.makedirs(os.path.dirname(os.path.join(prefix, NOTE)), exist_ok=True)
     with open(os.path.join(prefix, NOTE), "w", encoding="utf-8") as file:
         file.write(f"{'proved by' if is_proved else 'not proved, made by'} {toolchain()}\n")

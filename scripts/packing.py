@@ -66,16 +66,16 @@ def copy_program(path: str, name: str, top: str) -> None:
 
 
 def copy_sources(source: str, path: str) -> None:
-    """Copies the modules in Python of a folder, and the sources that are beside them."""
+    """Copies the modules in Python of a folder, and what they read beside them."""
     for name in sorted(os.listdir(source)):
-        if name.endswith((".py", ".typed", ".c", ".h", ".hpp")):
+        if name.endswith((".py", ".typed", ".sql", ".c", ".h", ".hpp")):
             copy(os.path.join(source, name), f"{path}/{name}")
 
 
 def copy_runtimes(top: str) -> None:
-    """Copies what is made of IDL in C and C++ stands on below a folder."""
-    for name, source in library.RUNTIMES.items():
-        copy(os.path.join(library.IDL, source), f"{top}/{name}")
+    """Copies the sources that programs in C and C++ compile below a folder."""
+    for name, folder in library.RUNTIMES.items():
+        copy(os.path.join(folder, os.path.basename(name)), f"{top}/{name}")
 
 
 def paths_below(top: str) -> list[str]:

@@ -44,7 +44,7 @@ int main(int count, char **words) {
       char name[16];
       int64_t balance;
       struct key key = {.client_size = 3, .retention = ++done, .expiration = UINT64_MAX};
-      struct outcome outcome = {0, 0, body, sizeof body};
+      lr_store_outcome outcome = {0, 0, body, sizeof body};
       snprintf(name, sizeof name, "%03x", (unsigned)index);
       memcpy(key.client, name, 3);
       store->balance(name, &balance);

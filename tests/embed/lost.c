@@ -5,7 +5,7 @@
 extern const struct store bank_real;
 static bool is_kept, is_lost;
 
-static bool keep(const struct key *key, const struct outcome *outcome) {
+static bool keep(const struct key *key, const lr_store_outcome *outcome) {
   is_kept = true;
   return bank_real.keep(key, outcome);
 }
@@ -23,7 +23,7 @@ static bool open_real(const char *name) { return bank_real.open(name); }
 static void close_real(void) { bank_real.close(); }
 static bool begin(uint64_t *least) { return bank_real.begin(least); }
 static bool rollback(void) { return bank_real.rollback(); }
-static int find(const struct key *key, struct outcome *outcome) { return bank_real.find(key, outcome); }
+static int find(const struct key *key, lr_store_outcome *outcome) { return bank_real.find(key, outcome); }
 static bool balance(const char *name, int64_t *cents) { return bank_real.balance(name, cents); }
 static bool set_balance(const char *name, int64_t cents) { return bank_real.set_balance(name, cents); }
 static int purge(uint64_t moment) { return bank_real.purge(moment); }

@@ -8,9 +8,11 @@ from typing import Any, AsyncIterator, Dict, Iterator, MutableMapping, Optional,
 
 from ._messages import FtRequest
 from ._outcomes import Outcome, Refuse
-from ._store import VERSION, Kept, StoreError, sure_of_version
+from ._store import Kept, StoreError
 
 _GONE = object()
+# the version of what is handed over
+_VERSION = 1
 
 
 class _Transaction(MutableMapping[Any, Any]):
@@ -66,7 +68,8 @@ class MemoryStore:
             version, state, outcomes, least = pickle.loads(octets)
         except Exception as error:
             raise StoreError(f"what was handed over can't be read: {error}") from error
-        sure_of_version(version, "what was handed over")
+        if version != _VERSION:
+            raise StoreError(f"what was handed over is of version {version}, and not {_VERSION}")
         store = cls()
         store.state, store._least = state, least
         store._outcomes = {key: (expiration, Outcome(*outcome)) for key, expiration, outcome in outcomes}
@@ -79,7 +82,7 @@ class MemoryStore:
         self._is_over = True
         outcomes = [(key, expiration, (int(it.status), int(it.order), bytes(it.body)))
                     for key, (expiration, it) in self._outcomes.items()]
-        return pickle.dumps((VERSION, self.state, outcomes, self._least))
+        return pickle.dumps((_VERSION, self.state, outcomes, self._least))
 
     def is_trouble(self, error: BaseException) -> bool:
         return isinstance(error, StoreError)

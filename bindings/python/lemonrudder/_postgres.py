@@ -7,34 +7,11 @@ from typing import Any, AsyncIterator, Awaitable, Callable, List, Optional, Tupl
 
 from ._messages import FtRequest
 from ._outcomes import Outcome, Refuse
-from ._store import VERSION, Kept, StoreError, octets_of_moment, sure_of_version
+from ._store import Kept, StoreError, changes, octets_of_moment, statements, sure_of_version
 
-_TABLES = """
-CREATE TABLE IF NOT EXISTS outcome (
-    client bytea NOT NULL, retention integer NOT NULL, expiration bytea NOT NULL, status integer NOT NULL,
-    little integer NOT NULL, body bytea NOT NULL, PRIMARY KEY (client, retention));
-CREATE INDEX IF NOT EXISTS outcome_by_expiration ON outcome (expiration);
-CREATE TABLE IF NOT EXISTS forgotten (version integer NOT NULL, moment bytea NOT NULL);
-"""
-# (of one snapshot: what a purge took out that it sees lies before the moment that it sees. The keys are a text, as
-# asyncpg takes long to learn what arrays are, on each connection)
-_FIND = """
-SELECT moment, status, little, body
-FROM unnest(string_to_array($1, ',')) WITH ORDINALITY AS asked (key, place) CROSS JOIN forgotten
-LEFT JOIN LATERAL (SELECT status, little, body FROM outcome WHERE client = decode(split_part(key, ':', 1), 'hex')
-                   AND retention = split_part(key, ':', 2)::integer LIMIT 1) AS found ON true
-ORDER BY place
-"""
-# (a row that a purge has locked is waited for, and looked at as it is then)
-_PUT = """
-INSERT INTO outcome (client, retention, expiration, status, little, body)
-SELECT $1::bytea, $2::integer, $3::bytea, $4::integer, $5::integer, $6::bytea
-FROM (SELECT moment FROM forgotten FOR SHARE) AS mark WHERE moment <= $3
-"""
-_GREATEST = "SELECT expiration FROM outcome WHERE expiration < $1 ORDER BY expiration DESC LIMIT 1"
-# which lock makes the tables; the state of an error that says that a key is there; and those, by their first two
-# characters, that say that the database failed: its connection, a transaction, its room, an operator, the system
-_LOCK = 0x4c520001
+_SAYS = statements("postgres")
+# the state of an error that says that a key is there; and those, by their first two characters, that say that the
+# database failed: its connection, a transaction, its room, an operator, the system
 _UNIQUE = "23505"
 _TROUBLES = ("08", "25", "40", "53", "55", "57", "58", "F0", "XX")
 _PAUSE = 0.5
@@ -48,8 +25,8 @@ class PostgresStore:
 
     connect: a function that gives a pool of asyncpg, or what gives one when it is awaited, as
     `functools.partial(asyncpg.create_pool, "postgres://..")`. schema: statements that make the tables of the servants
-    where they are missing. It has its tables `outcome` and `forgotten`. synchronous_commit has to be on: what is
-    committed outlives the database.
+    where they are missing. The tables of outcomes are in the first schema of its search_path. synchronous_commit has to
+    be on: what is committed outlives the database.
     """
 
     def __init__(self, connect: Callable[[], Awaitable[Any]], schema: str = "") -> None:
@@ -109,8 +86,9 @@ class PostgresStore:
 
     async def put(self, transaction: Any, key: FtRequest, outcome: Outcome) -> None:
         try:
-            done = await transaction.execute(_PUT, key.client, key.retention_id, octets_of_moment(key.expiration),
-                                             int(outcome.status), int(outcome.order), bytes(outcome.body))
+            done = await transaction.execute(
+                _SAYS["keep"], key.client, key.retention_id, octets_of_moment(key.expiration), int(outcome.status),
+                int(outcome.order), bytes(outcome.body))
         except Exception as error:
             if getattr(error, "sqlstate", None) == _UNIQUE:
                 raise Kept from error
@@ -121,13 +99,13 @@ class PostgresStore:
     async def purge(self, moment: int) -> int:
         async with self.transaction() as db:
             before = octets_of_moment(moment)
-            await db.fetch("SELECT moment FROM forgotten FOR UPDATE")
-            greatest = await db.fetchval(_GREATEST, before)
+            await db.fetch(_SAYS["alone"])
+            greatest = await db.fetchval(_SAYS["greatest"], before)
             if greatest is None:
                 return 0
             least = octets_of_moment(int.from_bytes(greatest, "big") + 1)
-            await db.execute("UPDATE forgotten SET moment = greatest(moment, $1)", least)
-            done = await db.execute("DELETE FROM outcome WHERE expiration < $1", least)
+            await db.execute(_SAYS["raise"], least)
+            done = await db.execute(_SAYS["take out"], before)
             return int(done.split()[1])
 
     async def _open(self) -> None:
@@ -136,12 +114,11 @@ class PostgresStore:
         try:
             pool = await self._connect()
             async with pool.acquire() as db, db.transaction():
-                await db.execute("SELECT pg_advisory_xact_lock($1)", _LOCK)
-                await db.execute(_TABLES + self.schema)
-                found = await db.fetchval("SELECT version FROM forgotten")
-                if found is None:
-                    await db.execute("INSERT INTO forgotten VALUES ($1, $2)", VERSION, bytes(8))
-                sure_of_version(VERSION if found is None else found, "the database")
+                await db.execute(_SAYS["lock"])
+                words = changes(_SAYS, await db.fetchval(_SAYS["found"]), "the database") + self.schema
+                if words:
+                    await db.execute(words)
+                sure_of_version(await db.fetchval(_SAYS["version"]), "the database")
             self._pool = pool
         except Exception as error:
             if pool is not None:
@@ -161,7 +138,7 @@ class PostgresStore:
                 while self._asked:
                     asked, self._asked = self._asked, []
                     keys = ",".join(f"{key.client.hex()}:{key.retention_id}" for key, _ in asked)
-                    rows = await db.fetch(_FIND, keys)
+                    rows = await db.fetch(_SAYS["find all"], keys)
                     for (_, future), row in zip(asked, rows):
                         if not future.done():
                             future.set_result(row)

@@ -9,24 +9,14 @@ from typing import Any, AsyncIterator, Optional
 
 from ._messages import FtRequest
 from ._outcomes import Outcome, Refuse
-from ._store import VERSION, Kept, StoreError, octets_of_moment, sure_of_version
+from ._store import Kept, StoreError, changes, octets_of_moment, statements, sure_of_version
 
 try:
     import sqlite3
 except ImportError:  # (Python may be built without it)
     sqlite3 = None  # type: ignore[assignment]
 
-_TABLES = """
-CREATE TABLE IF NOT EXISTS outcome (
-    client BLOB NOT NULL, retention INTEGER NOT NULL, expiration BLOB NOT NULL, status INTEGER NOT NULL,
-    little INTEGER NOT NULL, body BLOB NOT NULL, PRIMARY KEY (client, retention)) WITHOUT ROWID;
-CREATE INDEX IF NOT EXISTS outcome_by_expiration ON outcome (expiration);
-CREATE TABLE IF NOT EXISTS forgotten (version INTEGER NOT NULL, moment BLOB NOT NULL);
-"""
-_FIND = """
-SELECT moment, status, little, body FROM forgotten LEFT JOIN outcome ON client = ? AND retention = ?
-"""
-_PUT = "INSERT INTO outcome (client, retention, expiration, status, little, body) VALUES (?, ?, ?, ?, ?, ?)"
+_SAYS = statements("sqlite")
 # how many seconds pass between attempts to open it
 _PAUSE = 0.5
 
@@ -57,8 +47,8 @@ class SqliteStore:
     requests that wait together, `group` at most, are committed by one COMMIT, on another thread, each undone alone.
 
     path: the file. schema: statements that make the tables of the servants where they are missing. busy: the seconds
-    that another process may keep the file from being written. It has its tables `outcome` and `forgotten`, a
-    write-ahead log, and synchronous=FULL: what is committed outlives a power cut.
+    that another process may keep the file from being written. It has its tables of outcomes, a write-ahead log, and
+    synchronous=FULL: what is committed outlives a power cut.
     """
 
     def __init__(self, path: str, schema: str = "", *, group: int = 256, busy: float = 5.0) -> None:
@@ -131,7 +121,7 @@ class SqliteStore:
 
     async def find(self, key: FtRequest) -> Optional[Outcome]:
         await self.open()
-        (moment, status, little, body), = self._reader.execute(_FIND, (key.client, key.retention_id)).fetchall()
+        (moment, status, little, body), = self._reader.execute(_SAYS["find"], (key.client, key.retention_id)).fetchall()
         if status is not None:
             return Outcome(status, little, body)
         if octets_of_moment(key.expiration) < moment:
@@ -139,26 +129,25 @@ class SqliteStore:
         return None
 
     async def put(self, transaction: Any, key: FtRequest, outcome: Outcome) -> None:
-        # (who writes has the lock of the whole file)
-        expiration = octets_of_moment(key.expiration)
-        (moment,), = transaction.execute("SELECT moment FROM forgotten").fetchall()
-        if expiration < moment:
+        # (who writes has the lock of the whole file, W among it)
+        values = (key.client, key.retention_id, octets_of_moment(key.expiration), outcome.status, int(outcome.order),
+                  bytes(outcome.body))
+        try:
+            kept = transaction.execute(_SAYS["keep"], values).rowcount
+        except sqlite3.IntegrityError as error:
+            raise Kept from error
+        if kept != 1:
             raise Refuse("BAD_CONTEXT")
-        if transaction.execute("SELECT 1 FROM outcome WHERE client = ? AND retention = ?",
-                               (key.client, key.retention_id)).fetchall():
-            raise Kept
-        transaction.execute(_PUT, (key.client, key.retention_id, expiration, outcome.status, int(outcome.order),
-                                   bytes(outcome.body)))
 
     async def purge(self, moment: int) -> int:
         async with self.transaction() as db:
             before = (octets_of_moment(moment),)
-            (greatest,), = db.execute("SELECT max(expiration) FROM outcome WHERE expiration < ?", before).fetchall()
+            (greatest,), = db.execute(_SAYS["greatest"], before).fetchall()
             if greatest is None:
                 return 0
             least = octets_of_moment(int.from_bytes(greatest, "big") + 1)
-            db.execute("UPDATE forgotten SET moment = max(moment, ?)", (least,))
-            return int(db.execute("DELETE FROM outcome WHERE expiration < ?", before).rowcount)
+            db.execute(_SAYS["raise"], (least,))
+            return int(db.execute(_SAYS["take out"], before).rowcount)
 
     # ---- on the loop's thread ----
 
@@ -206,17 +195,29 @@ class SqliteStore:
             if mode != "wal":
                 raise StoreError(f"{self.path} takes no write-ahead log")
             writer.execute("PRAGMA synchronous=FULL")
-            writer.executescript("BEGIN IMMEDIATE;" + _TABLES + self.schema)
-            found = writer.execute("SELECT version FROM forgotten").fetchall()
-            if not found:
-                writer.execute("INSERT INTO forgotten VALUES (?, ?)", (VERSION, bytes(8)))
-            sure_of_version(found[0][0] if found else VERSION, self.path)
+            self._make_tables(writer)
+            writer.executescript("BEGIN IMMEDIATE;" + self.schema)
             writer.execute("COMMIT")
             return writer, reader
         except (sqlite3.Error, StoreError) as error:
             for connection in opened:
                 connection.close()
             raise StoreError(str(error) if isinstance(error, StoreError) else f"{self.path}: {error}") from error
+
+    def _make_tables(self, writer: Any) -> None:
+        """Has the tables be there, in a transaction."""
+        writer.execute("BEGIN IMMEDIATE")
+        (found,), = writer.execute(_SAYS["found"]).fetchall()
+        said = ""
+        # (each alone: executescript would commit before)
+        for line in changes(_SAYS, found, self.path).splitlines(True):
+            said += line
+            if sqlite3.complete_statement(said):
+                writer.execute(said)
+                said = ""
+        (version,), = writer.execute(_SAYS["version"]).fetchall()
+        sure_of_version(version, self.path)
+        writer.execute("COMMIT")
 
     @staticmethod
     def _commit(writer: Any) -> None:

@@ -1,12 +1,14 @@
 """Stores: where a Server keeps outcomes that outlive it."""
 from __future__ import annotations
 
-from typing import Any, AsyncContextManager, Optional, Protocol
+import pkgutil
+import re
+from typing import Any, AsyncContextManager, Dict, Optional, Protocol
 
 from ._messages import FtRequest
 from ._outcomes import Outcome
 
-VERSION = 1
+VERSION = 4
 """The version of the tables `outcome` and `forgotten`."""
 
 
@@ -52,6 +54,22 @@ class Store(Protocol):
 def octets_of_moment(moment: int) -> bytes:
     """A moment as it is stored, so that it compares as octets do: eight of them in big order."""
     return moment.to_bytes(8, "big")
+
+
+def statements(kind: str) -> Dict[str, str]:
+    """What is said to the tables in a kind of database, by its names: of outcomes.KIND.sql, as all languages read it."""
+    text = (pkgutil.get_data("lemonrudder", f"outcomes.{kind}.sql") or b"").decode("ascii")
+    parts = re.split(r"^-- :(.+)\n", text, flags=re.M)[1:]
+    return {name: re.sub(r"^--.*\n", "", said, flags=re.M).strip() for name, said in zip(parts[::2], parts[1::2])}
+
+
+def changes(says: Dict[str, str], found: Optional[int], where: str) -> str:
+    """What makes the tables of those that are there, of a version or 0. Raises StoreError: they are of another program."""
+    if found is None:
+        raise StoreError(f"{where}: its table outcome is of another program")
+    if found >= VERSION:
+        return ""
+    return "\n".join(says.get(name, "") for name in (f"aside {found}", "tables", f"over {found}"))
 
 
 def sure_of_version(found: Any, where: str) -> None:

@@ -7,6 +7,8 @@
 //! until they are answered. An [`Assembler`] makes messages of a stream, [`write`](mod@write)
 //! writes them, [`cdr`] reads and writes values, and [`Ior`] is a reference to an object.
 //!
+//! [`store`] has the tables in which outcomes outlive their process.
+//!
 //! Nothing here opens a socket (but `idl::Caller`), reads a clock (but `Moment::now`) or starts a
 //! thread. An object may be given to another thread, but not be used by two at once.
 //!
@@ -39,6 +41,7 @@ mod outcome;
 #[cfg(feature = "std")]
 mod seeds;
 mod server;
+pub mod store;
 mod types;
 pub mod write;
 

@@ -2,34 +2,16 @@
 //! expiration that was taken out, plus 1. A request that expires before W is refused, whatever
 //! clocks say. In memory it is the same, and at its end a file, which the next one takes over.
 
+use lemonrudder::store::{SQLITE, VERSION};
 use lemonrudder::{cdr::Writer, Error, FtRequest, Moment, Order, Outcome, Status};
-use rusqlite::{params, Connection, OptionalExtension};
+use rusqlite::{params, Connection, DatabaseName, OptionalExtension};
 use std::{fs, path::Path, time::Duration};
 
 pub const OVERDRAWN: &str = "IDL:Bank/Overdrawn:1.0";
-const VERSION: i64 = 1;
-const TABLES: &str = "
-    PRAGMA journal_mode = WAL;
-    PRAGMA synchronous = FULL;
-    BEGIN IMMEDIATE;
-    CREATE TABLE IF NOT EXISTS outcome (client BLOB NOT NULL, retention INTEGER NOT NULL,
-        expiration BLOB NOT NULL, status INTEGER NOT NULL, little INTEGER NOT NULL,
-        body BLOB NOT NULL, PRIMARY KEY (client, retention)) WITHOUT ROWID;
-    CREATE INDEX IF NOT EXISTS outcome_by_expiration ON outcome (expiration);
-    CREATE TABLE IF NOT EXISTS forgotten (version INTEGER NOT NULL, moment BLOB NOT NULL);
+const ACCOUNTS: &str = "
     CREATE TABLE IF NOT EXISTS account (name TEXT PRIMARY KEY, balance INTEGER NOT NULL)
         WITHOUT ROWID;
-    INSERT INTO forgotten SELECT 1, zeroblob(8) WHERE NOT EXISTS (SELECT 1 FROM forgotten);
     COMMIT;";
-/// All that is in the file that was handed over.
-const ROWS: &str = "
-    BEGIN IMMEDIATE;
-    INSERT INTO outcome SELECT * FROM last.outcome;
-    INSERT INTO account SELECT * FROM last.account;
-    DELETE FROM forgotten;
-    INSERT INTO forgotten SELECT * FROM last.forgotten;
-    COMMIT;
-    DETACH last;";
 
 /// Why a transaction has to be undone, in a line.
 pub struct Failure(String);
@@ -85,23 +67,34 @@ fn handed(path: &str) -> Option<&str> {
     path.strip_prefix("memory:")
 }
 
-fn open(path: &str) -> Result<Connection, Failure> {
-    let last = handed(path).filter(|it| Path::new(it).exists());
-    let file = match handed(path) {
-        Some(_) => Connection::open_in_memory()?,
-        None => Connection::open(path)?,
+/// Makes the tables where they are missing, and those of an earlier version these.
+fn make_tables(file: &Connection) -> Result<(), Failure> {
+    let number = |name| file.query_row(SQLITE.named(name), [], |row| row.get::<_, Option<i32>>(0));
+    file.execute_batch("PRAGMA journal_mode = WAL; PRAGMA synchronous = FULL; BEGIN IMMEDIATE")?;
+    let Some(found) = number("found")? else {
+        return Err(Failure("its table outcome is of another program".into()));
     };
-    file.busy_timeout(Duration::from_secs(5))?;
-    file.execute_batch(TABLES)?;
-    if let Some(last) = last {
-        file.execute("ATTACH ? AS last", [last])?;
-        file.execute_batch(ROWS)?;
-    }
-    let version =
-        file.query_row("SELECT version FROM forgotten", [], |row| row.get::<_, i64>(0))?;
+    file.execute_batch(&SQLITE.changes(found))?;
+    let version = number("version")?.unwrap_or(0);
     if version != VERSION {
         return Err(Failure(format!("it has outcomes of version {version}, and not {VERSION}")));
     }
+    Ok(file.execute_batch(ACCOUNTS)?)
+}
+
+fn open(path: &str) -> Result<Connection, Failure> {
+    let last = handed(path).filter(|it| Path::new(it).exists());
+    let mut file = match handed(path) {
+        Some(_) => Connection::open_in_memory()?,
+        None => Connection::open(path)?,
+    };
+    if let Some(last) = last {
+        // (which says why it is none, if it is)
+        Connection::open(last)?.query_row("SELECT count(*) FROM sqlite_master", [], |_| Ok(()))?;
+        file.restore(DatabaseName::Main, last, None::<fn(_)>)?;
+    }
+    file.busy_timeout(Duration::from_secs(5))?;
+    make_tables(&file)?;
     if let Some(last) = last {
         fs::remove_file(last)?;
     }
@@ -128,7 +121,7 @@ impl Store {
     pub fn begin(&mut self) -> Result<(), Failure> {
         let file = self.opened()?;
         file.execute_batch("BEGIN IMMEDIATE")?;
-        let least = file.query_row("SELECT moment FROM forgotten", [], |row| row.get(0))?;
+        let least = file.query_row(SQLITE.named("least"), [], |row| row.get(0))?;
         self.least = u64::from_be_bytes(least);
         Ok(())
     }
@@ -166,34 +159,25 @@ impl Store {
     }
 
     pub fn find(&mut self, key: &Key) -> Result<Option<Outcome>, Failure> {
-        let words = "SELECT status, little, body FROM outcome WHERE client = ? AND retention = ?";
-        let mut statement = self.opened()?.prepare_cached(words)?;
-        let found = statement
-            .query_row(params![key.client, key.retention], |row| {
-                Ok((row.get::<_, u32>(0)?, row.get::<_, bool>(1)?, row.get::<_, Vec<u8>>(2)?))
-            })
-            .optional()?;
-        let Some((status, is_little, body)) = found else { return Ok(None) };
-        let order = if is_little { Order::Little } else { Order::Big };
+        let mut statement = self.opened()?.prepare_cached(SQLITE.named("find"))?;
+        let mut rows = statement.query(params![key.client, key.retention])?;
+        let row = rows.next()?.ok_or_else(|| Failure("it has no mark".into()))?;
+        let Some(status) = row.get(1)? else { return Ok(None) };
+        let order = if row.get(2)? { Order::Little } else { Order::Big };
         let status =
             Status::from_number(status).ok_or_else(|| Failure(format!("status {status}")))?;
-        Ok(Some(Outcome { status, order, body }))
+        Ok(Some(Outcome { status, order, body: row.get(3)? }))
     }
 
     pub fn keep(&mut self, key: &Key, outcome: &Outcome) -> Result<(), Failure> {
-        let words = "INSERT INTO outcome (client, retention, expiration, status, little, body)
-            VALUES (?, ?, ?, ?, ?, ?)";
         let is_little = outcome.order == Order::Little;
         let (expiration, status) = (octets(key.expiration), outcome.status as u32);
-        self.opened()?.prepare_cached(words)?.execute(params![
-            key.client,
-            key.retention,
-            expiration,
-            status,
-            is_little,
-            outcome.body
-        ])?;
-        Ok(())
+        let values =
+            params![key.client, key.retention, expiration, status, is_little, outcome.body];
+        match self.opened()?.prepare_cached(SQLITE.named("keep"))?.execute(values)? {
+            1 => Ok(()),
+            _ => Err(Failure("it expires before W".into())),
+        }
     }
 
     /// Whether it may be that an outcome of it was taken out.
@@ -233,13 +217,12 @@ impl Store {
     fn take_out(&mut self, moment: u64) -> Result<(), Failure> {
         self.begin()?;
         let file = self.opened()?;
-        let words = "SELECT max(expiration) FROM outcome WHERE expiration < ?";
+        let moment = octets(moment);
         let greatest: Option<[u8; 8]> =
-            file.query_row(words, [octets(moment)], |row| row.get(0))?;
+            file.query_row(SQLITE.named("greatest"), [moment], |row| row.get(0))?;
         if let Some(greatest) = greatest.map(u64::from_be_bytes) {
-            let mark = octets(greatest.saturating_add(1));
-            file.execute("UPDATE forgotten SET moment = max(moment, ?)", [mark])?;
-            file.execute("DELETE FROM outcome WHERE expiration < ?", [octets(moment)])?;
+            file.execute(SQLITE.named("raise"), [octets(greatest.saturating_add(1))])?;
+            file.execute(SQLITE.named("take out"), [moment])?;
         }
         self.commit()
     }

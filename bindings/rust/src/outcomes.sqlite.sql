@@ -1,0 +1,1 @@
+../../../embed/store/outcomes.sqlite.sql
