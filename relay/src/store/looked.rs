@@ -2,7 +2,8 @@
 //! and copied.
 
 use super::files;
-use super::tables::{self, number, VERSION};
+use super::tables::{self, number};
+use lemonrudder::store::VERSION;
 use rusqlite::{Connection, OpenFlags, Result, Row};
 use std::fs::{self, File};
 use std::path::Path;
@@ -11,30 +12,31 @@ use std::path::Path;
 const FAULTS: [(&str, &str); 4] = [
     (
         "SELECT count(*) FROM outcome WHERE length(expiration) <> 8
-            OR status IS NOT NULL AND (status NOT BETWEEN 0 AND 5 OR body_order NOT IN (0, 1)
-                OR place NOT BETWEEN 0 AND 7 OR body_order IS NULL OR place IS NULL)",
+            OR status IS NOT NULL AND (status NOT BETWEEN 0 AND 5 OR little NOT IN (0, 1)
+                OR place NOT BETWEEN 0 AND 7 OR little IS NULL OR place IS NULL)",
         "outcomes are none that a guard writes",
     ),
     (
-        "SELECT count(*) FROM bodies WHERE id NOT IN (SELECT id FROM outcome WHERE status IS NOT NULL)",
+        "SELECT count(*) FROM outcome_body
+            WHERE id NOT IN (SELECT id FROM outcome WHERE status IS NOT NULL)",
         "bodies are of no outcome",
     ),
     (
         "SELECT count(*) FROM outcome WHERE status IS NOT NULL AND body IS NULL
-            AND id NOT IN (SELECT id FROM bodies)",
+            AND id NOT IN (SELECT id FROM outcome_body)",
         "outcomes have no body",
     ),
     (
-        "SELECT abs(count(*) - 1) FROM mark WHERE length(least) = 8",
+        "SELECT abs(count(*) - 1) FROM forgotten WHERE length(moment) = 8",
         "marks are missing or too many",
     ),
 ];
 const COUNTS: &str = "SELECT count(status), count(*) - count(status), min(expiration),
     max(expiration) FROM outcome";
 const OCTETS: &str = "SELECT coalesce(sum(length(body)), 0)
-    + (SELECT coalesce(sum(length(octets)), 0) FROM bodies) FROM outcome";
-const LEAST: &str = "SELECT least FROM mark";
-const BEGUN: &str = "SELECT client, number, expiration FROM outcome WHERE status IS NULL
+    + (SELECT coalesce(sum(length(octets)), 0) FROM outcome_body) FROM outcome";
+const LEAST: &str = "SELECT moment FROM forgotten";
+const BEGUN: &str = "SELECT client, retention, expiration FROM outcome WHERE status IS NULL
     ORDER BY expiration";
 const DAY: &str = "SELECT strftime('%Y-%m-%dT%H:%M:%SZ', ?1, 'unixepoch')";
 

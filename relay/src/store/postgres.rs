@@ -11,6 +11,7 @@ use super::{Begun, Error, Key, Outcome};
 use crate::cuts::Cuts;
 use crate::mark::{random, Mark, Random};
 use futures_util::future::{poll_fn, try_join_all};
+use lemonrudder::store::{POSTGRES, VERSION};
 use lemonrudder::Order;
 use std::cell::Cell;
 use std::sync::Arc;
@@ -22,10 +23,11 @@ use tokio_postgres::types::ToSql;
 use tokio_postgres::{AsyncMessage, Client, Config, Connection, NoTls, Row, Socket, Statement};
 
 type Failure = tokio_postgres::Error;
+/// The version of tables, and what their store is known by.
+type Known = (Option<i32>, Mark);
 /// What a statement is given that has a request done.
 type Values<'a> = [&'a (dyn ToSql + Sync); 8];
 
-const VERSION: i32 = 2;
 /// How long it takes at most to connect.
 const PATIENCE: Duration = Duration::from_secs(3);
 /// Rows that one transaction takes out at most.
@@ -40,42 +42,27 @@ const SESSION: &str = "
         WHERE current_setting('synchronous_commit') IN ('off', 'local');
     SELECT set_config('default_transaction_isolation', 'read committed', false);
 ";
-/// A row without a status is begun. Moments are eight octets in big order.
-const TABLES: &str = "
-    BEGIN;
+/// A guard has the tables in a schema of its own, but where its address names another one.
+const SCHEMA: &str = "
     SELECT pg_advisory_xact_lock(1280463732, 2);
     CREATE SCHEMA IF NOT EXISTS lemonrudder;
-    CREATE TABLE IF NOT EXISTS lemonrudder.guard (
+";
+const PATH: &str = "SET search_path = lemonrudder";
+/// .. with a row for each life of a guard, and what the store is known by, as it was drawn here.
+const GUARDS: &str = "
+    CREATE TABLE IF NOT EXISTS guard (
         id bigint GENERATED ALWAYS AS IDENTITY PRIMARY KEY, until timestamptz NOT NULL);
-    CREATE TABLE IF NOT EXISTS lemonrudder.outcome (
-        client bytea NOT NULL, number integer NOT NULL, expiration bytea NOT NULL,
-        guard bigint NOT NULL, waited boolean NOT NULL DEFAULT false,
-        status bigint, little boolean, place smallint, body bytea, cuts bytea,
-        PRIMARY KEY (client, number));
-    CREATE INDEX IF NOT EXISTS outcome_by_expiration ON lemonrudder.outcome (expiration);
-    CREATE TABLE IF NOT EXISTS lemonrudder.mark (version integer NOT NULL, least bytea NOT NULL);
-    INSERT INTO lemonrudder.mark SELECT 2, '\\x0000000000000000'
-        WHERE NOT EXISTS (SELECT 1 FROM lemonrudder.mark);
-    COMMIT;
+    CREATE TABLE IF NOT EXISTS identity (store bytea NOT NULL);
+    INSERT INTO identity SELECT '\\x{drawn}' WHERE NOT EXISTS (SELECT 1 FROM identity);
 ";
-/// A program that kept no cuts made no place for them, and reads tables which have one.
-const HAS_CUTS: &str = "SELECT EXISTS (SELECT 1 FROM pg_attribute
-    WHERE attrelid = 'lemonrudder.outcome'::regclass AND attname = 'cuts')";
-const ADD_CUTS: &str = "ALTER TABLE lemonrudder.outcome ADD COLUMN IF NOT EXISTS cuts bytea";
-/// What the store is known by, as it was drawn here.
-const IDENTITY: &str = "
-    BEGIN;
-    SELECT pg_advisory_xact_lock(1280463732, 2);
-    CREATE TABLE IF NOT EXISTS lemonrudder.identity (store bytea NOT NULL);
-    INSERT INTO lemonrudder.identity SELECT '\\x{drawn}' WHERE NOT EXISTS (SELECT 1 FROM lemonrudder.identity);
-    COMMIT;
-";
+const HAS_GUARDS: &str =
+    "SELECT to_regclass('guard') IS NOT NULL AND to_regclass('identity') IS NOT NULL";
 /// .. and as it is another one in another cluster, once a standby has taken over, after a recovery to an
 /// earlier moment, and where the table was made anew from a dump.
 const MARK: &str = "SELECT substring(sha256(convert_to(concat_ws(' ', encode(store, 'hex'),
         (SELECT system_identifier FROM pg_control_system()),
         left(pg_walfile_name(pg_current_wal_lsn()), 8),
-        'lemonrudder.identity'::regclass::oid), 'UTF8')) FOR 16) FROM lemonrudder.identity";
+        'identity'::regclass::oid), 'UTF8')) FOR 16) FROM identity";
 const LISTEN: &str = "LISTEN lemonrudder";
 const NOTIFY: &str = "NOTIFY lemonrudder";
 /// Another connection of this guard's ends, with what it had under way.
@@ -90,35 +77,36 @@ const LOCK: &str = "BEGIN; SELECT pg_advisory_xact_lock(1280463732, 1)";
 
 /// The statements of a session, in the order of `Statements`.
 const STATEMENTS: [&str; 11] = [
-    "INSERT INTO lemonrudder.guard (id, until) OVERRIDING SYSTEM VALUE
+    "INSERT INTO guard (id, until) OVERRIDING SYSTEM VALUE
         VALUES ($1, clock_timestamp() + make_interval(secs => $2))
         ON CONFLICT (id) DO UPDATE SET until = excluded.until",
-    "INSERT INTO lemonrudder.outcome (client, number, expiration, guard)
-        SELECT $1::bytea, $2::integer, $3::bytea, $4::bigint WHERE $3 >= (SELECT least FROM lemonrudder.mark)
+    "INSERT INTO outcome (client, retention, expiration, life)
+        SELECT $1::bytea, $2::integer, $3::bytea, $4::bigint
+        WHERE $3 >= (SELECT moment FROM forgotten)
         ON CONFLICT DO NOTHING",
-    "SELECT status, little, place, body, client IS NOT NULL, $3 < least, guard, cuts
-        FROM lemonrudder.mark LEFT JOIN lemonrudder.outcome ON client = $1 AND number = $2",
-    "UPDATE lemonrudder.outcome SET status = $4, little = $5, place = $6, body = $7, cuts = $8
-        WHERE client = $1 AND number = $2 AND guard <> $3 AND status IS NULL
-        AND NOT EXISTS (SELECT 1 FROM lemonrudder.guard
-                        WHERE id = outcome.guard AND until >= clock_timestamp())
+    "SELECT status, little, place, body, client IS NOT NULL, $3 < moment, life, cuts
+        FROM forgotten LEFT JOIN outcome ON client = $1 AND retention = $2",
+    "UPDATE outcome SET status = $4, little = $5, place = $6, body = $7, cuts = $8
+        WHERE client = $1 AND retention = $2 AND life <> $3 AND status IS NULL
+        AND NOT EXISTS (SELECT 1 FROM guard
+                        WHERE id = outcome.life AND until >= clock_timestamp())
         RETURNING waited",
-    "UPDATE lemonrudder.outcome SET waited = true
-        WHERE client = $1 AND number = $2 AND status IS NULL",
-    "UPDATE lemonrudder.outcome SET status = $4, little = $5, place = $6, body = $7, cuts = $8
-        WHERE client = $1 AND number = $2 AND guard = $3 AND status IS NULL RETURNING waited",
-    "DELETE FROM lemonrudder.outcome
-        WHERE client = $1 AND number = $2 AND guard = $3 AND status IS NULL RETURNING waited",
-    "DELETE FROM lemonrudder.outcome USING (
-            SELECT client AS c, number AS n FROM lemonrudder.outcome
-            LEFT JOIN lemonrudder.guard ON id = guard
+    "UPDATE outcome SET waited = true
+        WHERE client = $1 AND retention = $2 AND status IS NULL",
+    "UPDATE outcome SET status = $4, little = $5, place = $6, body = $7, cuts = $8
+        WHERE client = $1 AND retention = $2 AND life = $3 AND status IS NULL RETURNING waited",
+    "DELETE FROM outcome
+        WHERE client = $1 AND retention = $2 AND life = $3 AND status IS NULL RETURNING waited",
+    "DELETE FROM outcome USING (
+            SELECT client AS c, retention AS n FROM outcome
+            LEFT JOIN guard ON id = life
             WHERE expiration < $1
             AND (status IS NOT NULL OR until IS NULL OR until < clock_timestamp())
             ORDER BY expiration LIMIT $2) AS expired
-        WHERE client = c AND number = n RETURNING expiration",
-    "UPDATE lemonrudder.mark SET least = greatest(least, $1)",
-    "DELETE FROM lemonrudder.guard WHERE until < clock_timestamp() - interval '1 day'",
-    "DELETE FROM lemonrudder.guard WHERE id = $1",
+        WHERE client = c AND retention = n RETURNING expiration",
+    "UPDATE forgotten SET moment = greatest(moment, $1)",
+    "DELETE FROM guard WHERE until < clock_timestamp() - interval '1 day'",
+    "DELETE FROM guard WHERE id = $1",
 ];
 
 /// The statements of a session.
@@ -208,26 +196,53 @@ async fn statements(client: &Client) -> Result<Statements, Failure> {
     })
 }
 
-/// Makes the tables where there are none, and answers the version of those that are there, and what
-/// the store is known by: as it was made, or as it is drawn.
-async fn prepare(client: &Client, drawn: Random) -> Result<(i32, Mark), Failure> {
+/// A number that a statement of the tables says, if it says one.
+async fn said(client: &Client, name: &str) -> Result<Option<i32>, Failure> {
+    client.query_one(POSTGRES.named(name), &[]).await?.try_get(0)
+}
+
+/// Makes the tables where there are none, or of those of a version before, in a transaction, and
+/// answers their version; none, where they are another program's.
+async fn make_tables(client: &Client) -> Result<Option<i32>, Failure> {
+    client.batch_execute("BEGIN").await?;
+    client.batch_execute(POSTGRES.named("lock")).await?;
+    let found = said(client, "found").await?;
+    let version = match found {
+        Some(found) => {
+            client.batch_execute(&POSTGRES.changes(found)).await?;
+            said(client, "version").await?
+        }
+        None => None,
+    };
+    client.batch_execute("COMMIT").await?;
+    Ok(version)
+}
+
+/// Has the tables be there, and answers their version, and what the store is known by: as it was
+/// made, or as it is drawn.
+async fn prepare(client: &Client, has_path: bool, drawn: Random) -> Result<Known, Failure> {
     client.batch_execute(SESSION).await?;
-    let known = client.query_one("SELECT to_regclass('lemonrudder.mark') IS NOT NULL", &[]).await?;
-    if !known.get::<_, bool>(0) {
-        client.batch_execute(TABLES).await?;
+    if !has_path {
+        let known = client.query_one("SELECT to_regnamespace('lemonrudder') IS NOT NULL", &[]);
+        if !known.await?.get::<_, bool>(0) {
+            client.batch_execute(SCHEMA).await?;
+        }
+        client.batch_execute(PATH).await?;
     }
-    if !client.query_one(HAS_CUTS, &[]).await?.get::<_, bool>(0) {
-        client.batch_execute(ADD_CUTS).await?;
+    let version = make_tables(client).await?;
+    if version != Some(VERSION) {
+        return Ok((version, Mark::default()));
     }
-    let version = client.query_one("SELECT version FROM lemonrudder.mark", &[]).await?;
-    let known = "SELECT to_regclass('lemonrudder.identity') IS NOT NULL";
-    if !client.query_one(known, &[]).await?.get::<_, bool>(0) {
+    if !client.query_one(HAS_GUARDS, &[]).await?.get::<_, bool>(0) {
         let drawn: String = drawn.iter().map(|octet| format!("{octet:02x}")).collect();
-        client.batch_execute(&IDENTITY.replace("{drawn}", &drawn)).await?;
+        let guards = GUARDS.replace("{drawn}", &drawn);
+        client
+            .batch_execute(&format!("BEGIN; {}; {guards} COMMIT", POSTGRES.named("lock")))
+            .await?;
     }
     let row = client.query_one(MARK, &[]).await?;
     let store = row.try_get::<_, Vec<u8>>(0)?.try_into().unwrap_or_default();
-    Ok((version.try_get(0)?, Mark { store, ..Mark::default() }))
+    Ok((version, Mark { store, ..Mark::default() }))
 }
 
 /// Ends a session of this guard's that may have something under way, and waits until it has ended.
@@ -242,16 +257,17 @@ fn seconds(time: Duration) -> f64 {
     time.as_secs_f64()
 }
 
-fn values_of(outcome: &Outcome) -> (i64, bool, i16) {
-    (outcome.status.into(), outcome.order == Order::Little, outcome.place.into())
+fn values_of(outcome: &Outcome) -> (i32, i32, i32) {
+    let status = i32::try_from(outcome.status).unwrap_or(i32::MAX);
+    (status, (outcome.order == Order::Little).into(), outcome.place.into())
 }
 
 /// What a row says: nothing where it is begun.
 fn outcome_of(row: &Row) -> Result<Option<Outcome>, Failure> {
-    let Some(status) = row.try_get::<_, Option<i64>>(0)? else { return Ok(None) };
-    let order = if row.try_get(1)? { Order::Little } else { Order::Big };
+    let Some(status) = row.try_get::<_, Option<i32>>(0)? else { return Ok(None) };
+    let order = if row.try_get::<_, i32>(1)? == 1 { Order::Little } else { Order::Big };
     let status = u32::try_from(status).unwrap_or(u32::MAX);
-    let place = u8::try_from(row.try_get::<_, i16>(2)?).unwrap_or(0);
+    let place = u8::try_from(row.try_get::<_, i32>(2)?).unwrap_or(0);
     let cuts = Cuts::read(row.try_get(7)?);
     Ok(Some(Outcome { status, order, place, body: row.try_get(3)?, cuts }))
 }
@@ -421,10 +437,13 @@ impl Postgres {
     async fn connect(&mut self) -> Result<Link, Error> {
         let client = self.session().await?;
         let drawn = random().map_err(|error| Error::Away(error.to_string()))?;
-        let prepared = prepare(&client, drawn).await;
+        let has_path = self.config.get_options().is_some_and(|it| it.contains("search_path"));
+        let prepared = prepare(&client, has_path, drawn).await;
         let (version, mark) = prepared.map_err(|error| away(&error))?;
-        if version != VERSION {
-            let why = format!("PostgreSQL: its tables are of version {version}, not {VERSION}");
+        if version != Some(VERSION) {
+            let of = version
+                .map_or("another program".into(), |it| format!("version {it}, not {VERSION}"));
+            let why = format!("PostgreSQL: its tables are of {of}");
             return Err(Error::Unusable(why));
         }
         self.mark = Some(mark);
@@ -443,7 +462,7 @@ impl Postgres {
         let guard = match self.guard {
             Some(guard) => guard,
             None => {
-                let words = "INSERT INTO lemonrudder.guard (until)
+                let words = "INSERT INTO guard (until)
                     VALUES (clock_timestamp() + make_interval(secs => $1)) RETURNING id";
                 client.query_one(words, &[&lease]).await?.try_get(0)?
             }

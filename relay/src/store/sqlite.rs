@@ -27,25 +27,24 @@ const READERS: Duration = Duration::from_secs(1);
 /// Octets of the write-ahead log that stay once it is in the file.
 const LOG: i64 = 1 << 24;
 
-const FIND: &str = "SELECT status, body_order, place,
-        coalesce(body, (SELECT octets FROM bodies WHERE bodies.id = outcome.id)), life, cuts
-    FROM outcome WHERE client = ?1 AND number = ?2";
-const LEAST: &str = "SELECT least FROM mark";
+const FIND: &str = "SELECT status, little, place,
+        coalesce(body, (SELECT octets FROM outcome_body WHERE outcome_body.id = outcome.id)), life, cuts
+    FROM outcome WHERE client = ?1 AND retention = ?2";
+const LEAST: &str = "SELECT moment FROM forgotten";
 const BEGIN: &str =
-    "INSERT INTO outcome (client, number, expiration, life) VALUES (?1, ?2, ?3, ?4)";
-const FINISH: &str = "UPDATE outcome SET status = ?3, body_order = ?4, place = ?5, body = ?6,
+    "INSERT INTO outcome (client, retention, expiration, life) VALUES (?1, ?2, ?3, ?4)";
+const FINISH: &str = "UPDATE outcome SET status = ?3, little = ?4, place = ?5, body = ?6,
         cuts = ?7
-    WHERE client = ?1 AND number = ?2 AND status IS NULL RETURNING id";
-const BODY: &str = "INSERT INTO bodies VALUES (?1, ?2)";
-const UNDO: &str = "DELETE FROM outcome WHERE client = ?1 AND number = ?2 AND status IS NULL";
+    WHERE client = ?1 AND retention = ?2 AND status IS NULL RETURNING id";
+const BODY: &str = "INSERT INTO outcome_body VALUES (?1, ?2)";
+const UNDO: &str = "DELETE FROM outcome WHERE client = ?1 AND retention = ?2 AND status IS NULL";
 const EXPIRED: &str = "SELECT expiration, id FROM outcome
     WHERE status IS NOT NULL AND expiration < ?1 ORDER BY expiration LIMIT ?2";
-const TAKE_OUT: [&str; 2] =
-    ["DELETE FROM outcome WHERE id = ?1", "DELETE FROM bodies WHERE id = ?1"];
-const RAISE: &str = "UPDATE mark SET least = max(least, ?1)";
-const LOST: &str = "UPDATE outcome SET status = ?1, body_order = ?2, place = ?3, body = ?4
+const TAKE_OUT: &str = "DELETE FROM outcome WHERE id = ?1";
+const RAISE: &str = "UPDATE forgotten SET moment = max(moment, ?1)";
+const LOST: &str = "UPDATE outcome SET status = ?1, little = ?2, place = ?3, body = ?4
     WHERE status IS NULL";
-const LIVE: &str = "UPDATE mark SET life = life + 1 RETURNING life";
+const LIVE: &str = "UPDATE forgotten SET life = life + 1 RETURNING life";
 
 /// A store in a SQLite file.
 pub struct Sqlite {
@@ -123,9 +122,7 @@ fn purge(with: &Transaction<'_>, now: u64, before: u64) -> Result<Done> {
     let rows = expired.query_map(params![now.to_be_bytes(), CHUNK], of_row)?;
     let rows = rows.collect::<Result<Vec<_>>>()?;
     for (_, id) in &rows {
-        for words in TAKE_OUT {
-            execute(with, words, [id])?;
-        }
+        execute(with, TAKE_OUT, [id])?;
     }
     if let Some((last, _)) = rows.last() {
         execute(with, RAISE, params![(last + 1).to_be_bytes()])?;

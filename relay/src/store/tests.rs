@@ -7,6 +7,7 @@ use super::{Begun, Error, Key, Outcome, Store};
 use crate::cuts::Cuts;
 use crate::mark::Mark;
 use futures_util::future::select_all;
+use lemonrudder::store::SQLITE;
 use lemonrudder::Order;
 use std::collections::VecDeque;
 use std::path::{Path, PathBuf};
@@ -264,8 +265,9 @@ async fn a_file_that_is_no_store_is_said_in_a_line() {
         (PathBuf::from("/nowhere/there"), "No such file"),
         (text, "file is not a database"),
         (other("CREATE TABLE some (one)", "other"), "of another program"),
+        (other("CREATE TABLE outcome (one)", "namesake"), "of another program"),
         (
-            other("PRAGMA application_id = 1280463732; PRAGMA user_version = 9", "version"),
+            other(&format!("{}; UPDATE forgotten SET version = 9", SQLITE.changes(0)), "version"),
             "another version",
         ),
         (taken, "locked"),

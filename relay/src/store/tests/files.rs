@@ -9,8 +9,8 @@ use std::fs::Permissions;
 use std::os::unix::fs::PermissionsExt;
 use std::path::{Path, PathBuf};
 
-/// A file as the version before made it: what is done, what is begun, and what has no octets.
-const BEFORE: &str = "
+/// A file as version 2 made it: what is done, what is begun, and what has no octets.
+const SECOND: &str = "
     CREATE TABLE outcome (
         client BLOB NOT NULL, number INTEGER NOT NULL, expiration BLOB NOT NULL,
         life INTEGER NOT NULL, status INTEGER, body_order INTEGER, place INTEGER, body BLOB,
@@ -26,65 +26,121 @@ const BEFORE: &str = "
     INSERT INTO outcome VALUES (x'61', 3, x'0000000000000064', 3, 0, 0, 0, x'');
 ";
 
+/// .. as version 3 did, with what it was known by.
+const THIRD: &str = "
+    CREATE TABLE outcome (
+        id INTEGER PRIMARY KEY, client BLOB NOT NULL, number INTEGER NOT NULL, expiration BLOB NOT NULL,
+        life INTEGER NOT NULL, status INTEGER, body_order INTEGER, place INTEGER, body BLOB,
+        UNIQUE (client, number)
+    );
+    CREATE INDEX outcome_by_expiration ON outcome (expiration) WHERE status IS NOT NULL;
+    CREATE TABLE bodies (id INTEGER PRIMARY KEY, octets BLOB NOT NULL);
+    CREATE TABLE mark (least BLOB NOT NULL, life INTEGER NOT NULL);
+    INSERT INTO mark VALUES (x'000000000000000b', 3);
+    PRAGMA application_id = 1280463732;
+    PRAGMA user_version = 3;
+    INSERT INTO outcome VALUES (7, x'61', 1, x'0000000000000064', 3, 3, 1, 4, x'6f6e65');
+    INSERT INTO outcome VALUES (9, x'61', 2, x'0000000000000064', 3, NULL, NULL, NULL, NULL);
+    INSERT INTO outcome VALUES (11, x'61', 3, x'0000000000000064', 3, 0, 0, 0, x'');
+    INSERT INTO outcome VALUES (13, x'61', 4, x'0000000000000064', 3, 3, 0, 0, NULL);
+    CREATE TABLE identity (store BLOB NOT NULL, count INTEGER NOT NULL);
+    INSERT INTO identity VALUES (x'000102030405060708090a0b0c0d0e0f', 5);
+";
+
+/// .. and as servers of version 1 did, beside their accounts.
+const FIRST: &str = "
+    CREATE TABLE outcome (client BLOB NOT NULL, retention INTEGER NOT NULL, expiration BLOB NOT NULL,
+        status INTEGER NOT NULL, little INTEGER NOT NULL, body BLOB NOT NULL,
+        PRIMARY KEY (client, retention)) WITHOUT ROWID;
+    CREATE INDEX outcome_by_expiration ON outcome (expiration);
+    CREATE TABLE forgotten (version INTEGER NOT NULL, moment BLOB NOT NULL);
+    CREATE TABLE account (name TEXT PRIMARY KEY, balance INTEGER NOT NULL) WITHOUT ROWID;
+    INSERT INTO forgotten VALUES (1, x'000000000000000b');
+    INSERT INTO outcome VALUES (x'61', 5, x'0000000000000064', 2, 0, x'6f6b');
+    INSERT INTO account VALUES ('a', 7);
+";
+
 /// Who may read and write a file.
 fn mode_of(file: &Path) -> u32 {
     std::fs::metadata(file).unwrap().permissions().mode() & 0o777
 }
 
-#[tokio::test]
-async fn a_file_of_the_version_before_is_made_one_of_this() {
-    let file = file("before");
-    let before = rusqlite::Connection::open(&file).unwrap();
-    before.pragma_update(None, "journal_mode", "WAL").unwrap();
-    before.execute_batch(BEFORE).unwrap();
-    let long = vec![b'x'; 300];
-    let row = "INSERT INTO outcome VALUES (x'61', 4, x'0000000000000064', 3, 3, 0, 0, ?1)";
-    before.execute(row, [&long]).unwrap();
-    before.close().unwrap();
-    std::fs::set_permissions(&file, Permissions::from_mode(0o644)).unwrap();
-    for _ in 0..2 {
-        let mut taker = over_file(&file).await;
-        let begun = taker.store.begin(&key("a", "3"), 100).await;
-        assert_eq!(begun, Ok(Begun::Done { outcome: outcome(""), is_ours: false }));
-        let begun = taker.store.begin(&key("a", "4"), 100).await;
-        let kept = Outcome::whole(3, Order::Big, long.clone());
-        assert_eq!(begun, Ok(Begun::Done { outcome: kept, is_ours: false }));
-        let steps = "
-            begin a 1 100   | one of another
-            begin a 2 100   | maybe of another
-            begin b 1 10    | expired           # W is 11
-            begin b 1 11    | new
-            undo b 1        |
-        ";
-        taker.table(steps).await;
-        for more in ["", "-wal", "-shm", "-guard"] {
-            assert_eq!(mode_of(&files::beside(&file, more)), 0o600, "{more}");
-        }
-        assert_eq!(looked::check(&file), Vec::<String>::new());
-        taker.store.close().await;
-    }
-    let now = rusqlite::Connection::open(&file).unwrap();
-    assert_eq!(
-        (tables::number(&now, "auto_vacuum"), tables::number(&now, "user_version")),
-        (Ok(2), Ok(3))
-    );
+/// A file that others made.
+fn made(name: &str, words: &str) -> (PathBuf, rusqlite::Connection) {
+    let file = file(name);
+    _ = std::fs::remove_file(files::beside(&file, "-begun"));
+    let link = rusqlite::Connection::open(&file).unwrap();
+    link.pragma_update(None, "journal_mode", "WAL").unwrap();
+    link.execute_batch(words).unwrap();
+    (file, link)
 }
 
-/// A file that has no place for cuts is that of a program which kept none.
 #[tokio::test]
-async fn a_file_gets_a_place_for_cuts() {
-    let file = file("uncut");
-    let mut taker = over_file(&file).await;
-    taker.table("begin a 1 100 | new\nfinish a 1 one | one").await;
-    taker.store.close().await;
-    let before = rusqlite::Connection::open(&file).unwrap();
-    before.execute_batch("ALTER TABLE outcome DROP COLUMN cuts").unwrap();
-    before.close().unwrap();
-    for life in ["new\nfinish a 2 cut | cut", "cut of another"] {
-        let mut taker = over_file(&file).await;
-        taker.table(&format!("begin a 1 100 | one of another\nbegin a 2 100 | {life}")).await;
-        taker.store.close().await;
+async fn a_file_of_a_version_before_is_made_one_of_this() {
+    let long = vec![b'x'; 300];
+    let second = "INSERT INTO outcome VALUES (x'61', 4, x'0000000000000064', 3, 3, 0, 0, ?1)";
+    let third = "INSERT INTO bodies VALUES (13, ?1)";
+    for (name, words, row) in [("second", SECOND, second), ("third", THIRD, third)] {
+        let (file, before) = made(name, words);
+        before.execute(row, [&long]).unwrap();
+        before.close().unwrap();
+        std::fs::set_permissions(&file, Permissions::from_mode(0o644)).unwrap();
+        for _ in 0..2 {
+            let mut taker = over_file(&file).await;
+            let begun = taker.store.begin(&key("a", "3"), 100).await;
+            assert_eq!(begun, Ok(Begun::Done { outcome: outcome(""), is_ours: false }));
+            let begun = taker.store.begin(&key("a", "4"), 100).await;
+            let kept = Outcome::whole(3, Order::Big, long.clone());
+            assert_eq!(begun, Ok(Begun::Done { outcome: kept, is_ours: false }));
+            let steps = "
+                begin a 1 100   | one of another
+                begin a 2 100   | maybe of another
+                begin b 1 10    | expired           # W is 11
+                begin b 1 11    | new
+                undo b 1        |
+            ";
+            taker.table(steps).await;
+            for more in ["", "-wal", "-shm", "-guard"] {
+                assert_eq!(mode_of(&files::beside(&file, more)), 0o600, "{more}");
+            }
+            assert_eq!(looked::check(&file), Vec::<String>::new());
+            taker.store.close().await;
+        }
+        assert!(looked::show(&file).unwrap().contains(&"version 4".to_owned()));
+        let now = rusqlite::Connection::open(&file).unwrap();
+        // (a program of a version before refuses it by that)
+        let numbers = ["auto_vacuum", "user_version"].map(|name| tables::number(&now, name));
+        assert_eq!(numbers, [Ok(2), Ok(4)]);
     }
+}
+
+#[tokio::test]
+async fn what_version_3_was_known_by_stays() {
+    let (file, before) = made("third-known", THIRD);
+    before.close().unwrap();
+    let store: [u8; 16] = std::array::from_fn(|index| u8::try_from(index).unwrap());
+    let beside = [&store[..], &5_i64.to_be_bytes()].concat();
+    std::fs::write(files::beside(&file, "-begun"), beside).unwrap();
+    let sqlite = Sqlite::open(&file).unwrap();
+    let mark = sqlite.mark().unwrap();
+    // (its last life was 3)
+    assert_eq!((mark.store, mark.life), (store, 4));
+}
+
+#[tokio::test]
+async fn a_guard_goes_on_with_what_servers_kept() {
+    let (file, before) = made("first", FIRST);
+    before.close().unwrap();
+    let mut taker = over_file(&file).await;
+    let kept = Outcome::whole(2, Order::Big, b"ok".to_vec());
+    let begun = taker.store.begin(&key("a", "5"), 100).await;
+    assert_eq!(begun, Ok(Begun::Done { outcome: kept, is_ours: false }));
+    taker.table("begin b 1 10 | expired\nbegin b 1 11 | new\nfinish b 1 one | one").await;
+    taker.store.close().await;
+    assert_eq!(looked::check(&file), Vec::<String>::new());
+    let now = rusqlite::Connection::open(&file).unwrap();
+    let balance = now.query_row("SELECT balance FROM account", [], |row| row.get::<_, i64>(0));
+    assert_eq!(balance, Ok(7));
 }
 
 #[tokio::test]
@@ -109,7 +165,7 @@ async fn who_reads_it_at_its_end_keeps_none_of_it() {
     let mut taker = over_file(&file).await;
     taker.table("begin a 1 100 | new\nfinish a 1 one | one").await;
     let reader = rusqlite::Connection::open(&file).unwrap();
-    reader.execute_batch("BEGIN; SELECT * FROM mark").unwrap();
+    reader.execute_batch("BEGIN; SELECT * FROM forgotten").unwrap();
     taker.store.close().await;
     drop(reader);
     assert!(!files::beside(&file, "-wal").exists());
@@ -162,7 +218,7 @@ async fn a_store_is_looked_into_while_its_guard_runs() {
     taker.table(steps).await;
     let shown = looked::show(&file).unwrap();
     for line in [
-        "version 3",
+        "version 4",
         "outcomes 1",
         "octets-of-bodies 3",
         "first-expires 1970-01-01T00:00:00Z",
@@ -194,10 +250,10 @@ async fn what_is_wrong_in_a_store_is_said() {
     taker.table("begin a 1 100 | new\nfinish a 1 one | one").await;
     let spoils = rusqlite::Connection::open(&file).unwrap();
     for (words, why) in [
-        ("INSERT INTO bodies VALUES (77, x'00')", "1 bodies are of no outcome"),
+        ("INSERT INTO outcome_body VALUES (77, x'00')", "1 bodies are of no outcome"),
         ("UPDATE outcome SET body = NULL", "1 outcomes have no body"),
         ("UPDATE outcome SET place = 8", "1 outcomes are none that a guard writes"),
-        ("DELETE FROM mark", "1 marks are missing or too many"),
+        ("DELETE FROM forgotten", "1 marks are missing or too many"),
     ] {
         spoils.execute_batch(words).unwrap();
         let found = looked::check(&file);

@@ -196,20 +196,6 @@ async fn postgres_takes_the_steps() {
 }
 
 #[tokio::test]
-async fn postgres_gets_a_place_for_cuts() {
-    let server = Database::new("cuts").await;
-    let mut before = server.guard(LONG).await;
-    before.table("begin a 1 100 | new\nfinish a 1 one | one").await;
-    before.store.close().await;
-    server.say("ALTER TABLE lemonrudder.outcome DROP COLUMN cuts").await;
-    for life in ["new\nfinish a 2 cut | cut", "cut of another"] {
-        let mut guard = server.guard(LONG).await;
-        guard.table(&format!("begin a 1 100 | one of another\nbegin a 2 100 | {life}")).await;
-        guard.store.close().await;
-    }
-}
-
-#[tokio::test]
 async fn postgres_has_two_guards() {
     let server = Database::new("two").await;
     let (mut one, mut other) = (server.guard(LONG).await, server.guard(LONG).await);
@@ -318,13 +304,78 @@ async fn postgres_goes_and_comes() {
 async fn postgres_of_another_version_is_not_used() {
     let server = Database::new("version").await;
     drop(server.guard(LONG).await);
-    server.say("UPDATE lemonrudder.mark SET version = 9").await;
+    server.say("UPDATE lemonrudder.forgotten SET version = 9").await;
     let store = Store::open(&server.address(), LONG).await.unwrap();
     let error = store.begin(&key("a", "1"), 100).await.unwrap_err();
-    assert_eq!(error, Error::Unusable("PostgreSQL: its tables are of version 9, not 2".into()));
+    assert_eq!(error, Error::Unusable("PostgreSQL: its tables are of version 9, not 4".into()));
     assert!(!store.ready().await);
     let error = Store::open("postgres://a b:c", LONG).await.err().unwrap();
     assert!(matches!(error, Error::Unusable(_)), "{error}");
+}
+
+/// Tables as guards of version 2 made them: what is done, and what is begun in a life that is over.
+const SECOND: &str = "
+    CREATE SCHEMA lemonrudder;
+    CREATE TABLE lemonrudder.guard (
+        id bigint GENERATED ALWAYS AS IDENTITY PRIMARY KEY, until timestamptz NOT NULL);
+    CREATE TABLE lemonrudder.outcome (
+        client bytea NOT NULL, number integer NOT NULL, expiration bytea NOT NULL,
+        guard bigint NOT NULL, waited boolean NOT NULL DEFAULT false,
+        status bigint, little boolean, place smallint, body bytea, PRIMARY KEY (client, number));
+    CREATE INDEX outcome_by_expiration ON lemonrudder.outcome (expiration);
+    CREATE TABLE lemonrudder.mark (version integer NOT NULL, least bytea NOT NULL);
+    INSERT INTO lemonrudder.mark VALUES (2, '\\x000000000000000b');
+    CREATE TABLE lemonrudder.identity (store bytea NOT NULL);
+    INSERT INTO lemonrudder.identity VALUES ('\\x000102030405060708090a0b0c0d0e0f');
+    INSERT INTO lemonrudder.outcome VALUES ('a', 1, '\\x0000000000000064', 7, false, 3, true, 4, 'one');
+    INSERT INTO lemonrudder.outcome VALUES ('a', 2, '\\x0000000000000064', 7);
+";
+
+/// .. and as servers of version 1 did.
+const FIRST: &str = "
+    CREATE TABLE outcome (client bytea NOT NULL, retention integer NOT NULL, expiration bytea NOT NULL,
+        status integer NOT NULL, little integer NOT NULL, body bytea NOT NULL, PRIMARY KEY (client, retention));
+    CREATE INDEX outcome_by_expiration ON outcome (expiration);
+    CREATE TABLE forgotten (version integer NOT NULL, moment bytea NOT NULL);
+    INSERT INTO forgotten VALUES (1, '\\x000000000000000b');
+    INSERT INTO outcome VALUES ('a', 1, '\\x0000000000000064', 3, 1, 'one');
+";
+
+#[tokio::test]
+async fn postgres_of_a_version_before_is_made_one_of_this() {
+    let server = Database::new("before").await;
+    server.session().await.batch_execute(SECOND).await.unwrap();
+    let steps = "
+        begin a 1 100   | one of another
+        begin a 2 100   | maybe of another
+        begin b 1 10    | expired           # W is 11
+        begin b 1 11    | new
+        undo b 1        |
+    ";
+    for _ in 0..2 {
+        let mut guard = server.guard(LONG).await;
+        guard.table(steps).await;
+        guard.store.close().await;
+    }
+    let drawn =
+        "SELECT 1 FROM lemonrudder.identity WHERE store = '\\x000102030405060708090a0b0c0d0e0f'";
+    assert_eq!(server.say(drawn).await, 1);
+}
+
+#[tokio::test]
+async fn postgres_of_servers_is_gone_on_with() {
+    let server = Database::new("servers").await;
+    server.session().await.batch_execute(FIRST).await.unwrap();
+    let address = format!("{}?options=-csearch_path%3Dpublic", server.address());
+    let mut guard = Taker::new(Store::open(&address, LONG).await.unwrap());
+    while !guard.store.ready().await {
+        tokio::time::sleep(Duration::from_millis(10)).await;
+    }
+    let kept = Outcome::whole(3, Order::Little, b"one".to_vec());
+    let begun = guard.store.begin(&key("a", "1"), 100).await;
+    assert_eq!(begun, Ok(Begun::Done { outcome: kept, is_ours: false }));
+    guard.table("begin b 1 10 | expired\nbegin b 1 11 | new\nfinish b 1 one | one").await;
+    assert_eq!(server.say("SELECT 1 FROM public.outcome WHERE life > 0").await, 1);
 }
 
 #[tokio::test]
@@ -335,7 +386,7 @@ async fn postgres_reads_w_under_a_lock() {
     // another guard is amid a purge that has raised W
     let purge = client.transaction().await.unwrap();
     purge.execute("SELECT pg_advisory_xact_lock(1280463732, 1)", &[]).await.unwrap();
-    let words = "UPDATE lemonrudder.mark SET least = '\\x0000000000000065'";
+    let words = "UPDATE lemonrudder.forgotten SET moment = '\\x0000000000000065'";
     purge.execute(words, &[]).await.unwrap();
     let begins = guard.begins(key("a", "1"), 100);
     while server.say("SELECT 1 FROM pg_locks WHERE NOT granted AND locktype = 'advisory'").await
