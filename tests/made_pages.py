@@ -4,7 +4,7 @@ is.
 import re
 import unittest
 
-from scripts import header, made_pages, quoted
+from scripts import header, made_pages, outcomes, quoted
 from tests import programs, runner
 
 TESTING = "docs/TESTING.md"
@@ -32,6 +32,10 @@ class Pages(unittest.TestCase):
     def test_header(self) -> None:
         """What follows from the header for C."""
         self.assertEqual([*header.differing()], [], "scripts/header.py --write makes them")
+
+    def test_outcomes(self) -> None:
+        """What C reads of the tables of outcomes."""
+        self.assertEqual(outcomes.differing(), [], "python3 -m scripts.outcomes --write makes them")
 
     def test_help(self) -> None:
         """The manual page, the completions, and the tables of options."""

@@ -32,7 +32,7 @@ OF_PROGRAMS = [
 ]
 OF_LIBRARY = [
     "tests.embedding", "tests.embed.deeds_test", "tests.embed.first_programs", "tests.embed.python_test",
-    "tests.embed.store_test", "tests.embed.durable_test", "tests.embed.rust_test",
+    "tests.embed.store_test", "tests.embed.durable_test", "tests.embed.layout_test", "tests.embed.rust_test",
     "tests.relay.guard_test", "tests.relay.retry_test", "tests.relay.orbs_test", "tests.relay.hostile_test",
     "tests.relay.operation_test", "tests.relay.guards_test", "tests.relay.lines_test", "tests.relay.memory_test",
     "tests.relay.certificates_test", "tests.relay.fragments_test",

@@ -95,6 +95,11 @@ def late_clock() -> str:
     return os.path.join(folder, "late.so")
 
 
+def of_store(kind: str) -> str:
+    """The source by which programs in C and C++ keep outcomes in a kind of database, as it is installed."""
+    return os.path.join(library(), "share", "lemonrudder", f"lemonrudder_store_{kind}.c")
+
+
 @functools.lru_cache(maxsize=None)
 def made(language: str, is_postgres: bool) -> str:
     """The bank in C, C++ or Rust."""
@@ -104,16 +109,19 @@ def made(language: str, is_postgres: bool) -> str:
     if language == "rs":
         return made_of_rust(folder)
     sources = ["bank_sqlite.c"] if language == "cpp" else ["bank_durable.c", "bank_sqlite.c", "loop.c"]
+    kinds = ["sqlite"]
     if is_postgres:
         flags = [*flags, "-DBANK_POSTGRES", *flags_of("libpq", "libpq-dev")]
         sources.append("bank_postgres.c")
+        kinds.append("postgres")
     lib, paths = library(), [os.path.join(EXAMPLES, name) for name in sources]
+    paths += [of_store(kind) for kind in kinds]
     linked = [f"-I{lib}/include", f"{lib}/lib/liblemonrudder.a", *flags, "-pthread"]
     if language == "c":
         compiled(folder, *paths, *linked, "-o", "bank")
     else:
         compiled(folder, f"-I{lib}/include", *flags, "-c", *paths)
-        objects = [name.replace(".c", ".o") for name in sources]
+        objects = [os.path.basename(name).replace(".c", ".o") for name in paths]
         compiled(folder, os.path.join(EXAMPLES, "bank_durable.cpp"), *objects, *linked, "-o", "bank",
                  compiler=(tool("g++"), "-std=c++17"))
     return os.path.join(folder, "bank")
@@ -141,7 +149,7 @@ def losing(language: str) -> str:
             shutil.copy(os.path.join(EMBED, "lost.rs"), os.path.join(there, "src", "store.rs"))
         return made_of_rust(folder, model)
     lib, sqlite = library(), os.path.join(EXAMPLES, "bank_sqlite.c")
-    compiled(folder, f"-I{lib}/include", *flags, "-Dbank_sqlite=bank_real", "-c", sqlite)
+    compiled(folder, f"-I{lib}/include", *flags, "-Dbank_sqlite=bank_real", "-c", sqlite, of_store("sqlite"))
     sources = [os.path.join(EMBED, "lost.c")]
     sources += [os.path.join(EXAMPLES, name) for name in ("loop.c", "bank_durable.c")[:2 if language == "c" else 0]]
     compiled(folder, f"-I{lib}/include", f"-I{EXAMPLES}", *flags, "-c", *sources)

@@ -25,6 +25,8 @@ try:
 except ImportError:
     sqlite3 = None
 
+# of the table of outcomes
+COLUMNS = "client, retention, expiration, status, little, body"
 # where a bank is killed
 POINTS = ["asked", "begun", "looked", "changed", "stored", "committing", "committed", "answered"]
 POINTS_OF_PYTHON = ["begun", "changed", "stored", "committed"]
@@ -275,7 +277,7 @@ class OverSqlite(unittest.TestCase):
     def test_what_is_stored_is_answered_first(self, language):
         with self.bank(language) as bank:
             def keep(name, number, status, order, body):
-                self.done(bank.store, "INSERT INTO outcome VALUES (?, ?, ?, ?, ?, ?)", name.encode(), number,
+                self.done(bank.store, f"INSERT INTO outcome ({COLUMNS}) VALUES (?, ?, ?, ?, ?, ?)", name.encode(), number,
                           b"\xff" * 8, status, order, body)
             asyncio.run(recalled(bank, keep, "client"))
 
@@ -315,7 +317,7 @@ class OverSqlite(unittest.TestCase):
             bank.end(signal.SIGTERM)
             self.done(bank.store, "UPDATE forgotten SET version = 7")
             bank.begin()
-            asyncio.run(declined(bank, "client", "of version 7, and not 1"))
+            asyncio.run(declined(bank, "client", "of version 7, and not 4"))
 
     @base.each(lambda: LANGUAGES)
     def test_a_store_that_is_read_only(self, language):
@@ -458,7 +460,7 @@ class OverPostgres(unittest.TestCase):
     @base.each(lambda: OF_BOTH)
     def test_what_is_stored_is_answered_first(self, language):
         def keep(name, number, status, order, body):
-            self.postgres.asked(f"INSERT INTO outcome VALUES ('{name}', {number}, '\\xffffffffffffffff', "
+            self.postgres.asked(f"INSERT INTO outcome ({COLUMNS}) VALUES ('{name}', {number}, '\\xffffffffffffffff', "
                                 f"{int(status)}, {int(order)}, '\\x{body.hex()}')")
         with self.bank(language) as bank:
             asyncio.run(recalled(bank, keep, f"{language}-stored"))
@@ -470,7 +472,7 @@ class OverPostgres(unittest.TestCase):
                 ("ALTER DATABASE postgres SET default_transaction_read_only = on",
                  "ALTER DATABASE postgres RESET default_transaction_read_only",
                  "read-only transaction"),
-                ("UPDATE forgotten SET version = 7", "UPDATE forgotten SET version = 1", "of version 7, and not 1")):
+                ("UPDATE forgotten SET version = 7", "UPDATE forgotten SET version = 4", "of version 7, and not 4")):
             with self.bank(language) as bank:
                 name = f"{language}-{line.partition(' ')[0]}"
                 bank.begin()

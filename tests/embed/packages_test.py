@@ -259,6 +259,7 @@ class Packages(unittest.TestCase):
         shared = f"{root}/{LIB}/{packages.library.SONAME}"
         self.prints([sys.executable, shutil.copy(path("examples/first.py"), self.folder)],
                     PYTHONPATH=f"{root}/usr/lib/python3/dist-packages", LEMONRUDDER_LIBRARY=shared)
+        self.keeps(sys.executable, PYTHONPATH=f"{root}/usr/lib/python3/dist-packages", LEMONRUDDER_LIBRARY=shared)
         for name in given():
             self.assertTrue(run([f"{root}/usr/bin/{name}", "--version"]).startswith(name))
             for each in (f"man/man1/{name}.1.gz", f"bash-completion/completions/{name}"):
@@ -290,6 +291,26 @@ class Packages(unittest.TestCase):
                       PYTHONPATH=f"{made_in}:{root}/usr/lib/python3/dist-packages",
                       LEMONRUDDER_LIBRARY=f"{root}/{LIB}/{packages.library.SONAME}")
 
+    @programs.needs("dpkg-deb", "pkg-config")
+    def test_debian_outcomes(self):
+        """A program that keeps outcomes in SQLite or PostgreSQL stands on the package for developers alone."""
+        root = self.root("liblemonrudder*.deb")
+        found = {**os.environ, "PKG_CONFIG_PATH": f"{root}/{LIB}/pkgconfig"}
+        if subprocess.run(["pkg-config", "--exists", "sqlite3", "libpq"], check=False).returncode != 0:
+            self.skipTest(f"{programs.NEEDS}libsqlite3-dev, libpq-dev")
+        sources = [run(["pkg-config", f"--variable={kind}_source", "lemonrudder"], env=found).strip()
+                   for kind in ("sqlite", "postgres")]
+        flags = run(["pkg-config", "--cflags", "--libs", "lemonrudder", "sqlite3", "libpq"], env=found).split()
+        run([programs.tool("gcc"), "-std=c99", *STRICT, path("tests/embed/stored.c"), *sources, *flags, "-o",
+             f"{self.folder}/stored"])
+        said = run([f"{self.folder}/stored", "sqlite", f"{self.folder}/some.db"], env={"LD_LIBRARY_PATH": f"{root}/{LIB}"})
+        self.assertIn("find 1 1 1 one", said.splitlines())
+
+    def keeps(self, python, **environment):
+        """A store in Python finds its tables in what is installed."""
+        words = f"import asyncio, lemonrudder; asyncio.run(lemonrudder.SqliteStore('{self.folder}/its.db').open())"
+        run([python, "-c", words], cwd=self.folder, env={**outside(), **environment})
+
     @programs.needs("dpkg-deb", "cmake", "make")
     def test_debian_with_cmake(self):
         """find_package finds the library of the package for developers."""
@@ -317,6 +338,7 @@ class Packages(unittest.TestCase):
         run([sys.executable, "-m", "venv", home])
         run([f"{home}/bin/python", "-m", "pip", "install", "-q", "--no-index", "--disable-pip-version-check", wheel])
         self.prints([f"{home}/bin/python", shutil.copy(path("examples/first.py"), self.folder)])
+        self.keeps(f"{home}/bin/python")
         made_in = self.generates(backend(), "python")
         self.deposits([f"{home}/bin/python", f"{self.folder}/bank.py"], PYTHONPATH=made_in)
 
