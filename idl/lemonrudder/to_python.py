@@ -4,6 +4,7 @@ Names are those of the OMG's mapping to Python 1.2: the interface M::I is the st
 what stands in no module is in _GlobalIDL and _GlobalIDL__POA. In FILE_idl.py each has the names of its scopes before
 its own, with _ between.
 """
+import itertools
 import keyword
 import os
 import re
@@ -210,14 +211,35 @@ def document(operation: model.Operation) -> str:
     return f'        """Raises {raises}."""' if raises else ""
 
 
-def inner_of(one: model.Interface, unit: model.Unit) -> List[str]:
-    """What stands in the scope of an interface, as members of its class."""
-    lines = []
+def names_in(one: model.Interface, unit: model.Unit) -> Dict[str, str]:
+    """The names in the scope of an interface, by which those of FILE_idl.py are members of its class."""
+    found: Dict[str, str] = {}
     for other in unit.whole:
         if other.scope[:-1] == one.scope:
-            lines.append(f"    {identifier(other.name)} = {flat(other.scope)}")
+            found[identifier(other.name)] = flat(other.scope)
             if isinstance(other, model.Enum):
-                lines += [f"    {identifier(item)} = {flat((*one.scope, item))}" for item in other.names]
+                found.update({identifier(item): flat((*one.scope, item)) for item in other.names})
+    return found
+
+
+def are_apart(one: model.Interface, two: model.Interface) -> bool:
+    """Whether neither of two interfaces inherits from the other."""
+    return one not in two.all_bases and two not in one.all_bases
+
+
+def inner_of(one: model.Interface, unit: model.Unit) -> List[str]:
+    """What stands in the scope of an interface, as members of its class; and what several of its bases have by one
+    name, which mypy would hold against each other."""
+    own = names_in(one, unit)
+    having: Dict[str, List[model.Interface]] = {}
+    for base in one.all_bases if len(one.own_bases) > 1 else ():
+        for name in names_in(base, unit):
+            having.setdefault(name, []).append(base)
+    lines = [f"    {name} = {named}" for name, named in own.items()]
+    for name, bases in having.items():
+        if name not in own and any(are_apart(*two) for two in itertools.combinations(bases, 2)):
+            base = next(base for base in one.own_bases if any(each in (base, *base.all_bases) for each in bases))
+            lines.append(f"    {name}: _typing.Any = {flat(base.scope)}.{name}")
     return lines
 
 

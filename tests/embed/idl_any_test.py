@@ -285,6 +285,7 @@ HOSTILE: dict[str, bytes] = {
     "an encapsulation in no order": big(SEQUENCE, 12, b"\2\0\0\0", OCTET, 0, 0),
     "a TypeCode's text that is endless": big(ALIAS, 12, b"\0\0\0\0", ENDLESS, 0),
     "a TypeCode's text without an end": big(ALIAS, 20, b"\0\0\0\0", 4, b"abcd", 1, b"\0\0\0\0"),
+    "a TypeCode's text that ends twice": big(ALIAS, 24, b"\0\0\0\0", 3, b"a\0\0\0", 1, b"\0\0\0\0", LONG, 0),
     "endless members": big(STRUCT, 24, b"\0\0\0\0", 1, b"\0\0\0\0", 1, b"\0\0\0\0", ENDLESS),
     **{f"the kind {kind}": big(kind, 8, 0, 0, 0, 0) for kind in (29, 30, 31, 32, 33, 36, 37, 0x7fffffff, 0xfffffffe)},
     "an indirection at the front": big(ENDLESS, -4),

@@ -84,7 +84,7 @@ class _Cursor:
 
     def text(self) -> None:
         size = self.number(4)
-        if size and self.take(size)[-1]:
+        if size and self.take(size).find(0) != size - 1:
             raise ValueError("a TypeCode with a text that has no end")
 
     def inner(self) -> _Cursor:
