@@ -37,8 +37,8 @@ OF_LIBRARY = [
     "tests.relay.operation_test", "tests.relay.guards_test", "tests.relay.lines_test", "tests.relay.memory_test",
     "tests.relay.certificates_test", "tests.relay.fragments_test",
     "tests.embed.idl_test", "tests.embed.idl_c_test", "tests.embed.idl_rust_test", "tests.embed.idl_stubs_test",
-    "tests.embed.idl_files_test", "tests.embed.idl_any_test", "tests.embed.objects_test", "tests.embed.naming_test",
-    "tests.embed.packages_test", "tests.relay.store_test", "tests.embed.bench_test",
+    "tests.embed.idl_files_test", "tests.embed.idl_exchange_test", "tests.embed.idl_any_test", "tests.embed.objects_test",
+    "tests.embed.naming_test", "tests.embed.packages_test", "tests.relay.store_test", "tests.embed.bench_test",
 ]
 
 

@@ -8,6 +8,7 @@ from __future__ import annotations
 import asyncio
 import contextlib
 import dataclasses
+import glob
 import importlib
 import json
 import keyword
@@ -21,7 +22,7 @@ from collections.abc import Iterable, Iterator
 from typing import Any, Dict, List, Optional, Tuple
 
 from tests.embed import idl_types
-from tests.embed.idl_test import EMBED, ORB, lr, run
+from tests.embed.idl_test import EMBED, ORB, compiled, lr, run
 from tests.programs import tool
 
 BASICS = {one.idl: one for one in idl_types.BASICS}
@@ -136,8 +137,9 @@ class Declared:
 
 def declared(paths: Iterable[str], *folders: str) -> List[Declared]:
     """What files declare."""
+    paths = list(paths)
     words = [tool("omniidl"), *(f"-I{folder}" for folder in folders), "-p", EMBED, "-bidl_dump", *paths]
-    return [Declared(line) for line in run(*words).splitlines()]
+    return [] if not paths else [Declared(line) for line in run(*words).splitlines()]
 
 
 # ---- values ----
@@ -241,6 +243,15 @@ def relaying(words: List[str], targets: List[str], **options: Any) -> Iterator[L
         process.kill()
         process.wait()
         process.stdout.close()
+
+
+@contextlib.contextmanager
+def behind(targets: List[str], *relays: List[str]) -> Iterator[List[str]]:
+    """The references of objects behind relays, of which the first stands before the objects themselves."""
+    with contextlib.ExitStack() as stack:
+        for words in relays:
+            targets = stack.enter_context(relaying(words, targets))
+        yield targets
 
 
 RELAY = """
@@ -391,6 +402,112 @@ class OmniOrb:
         return program
 
 
+CPP = """
+// A relay by what is made in C++.
+#include <csignal>
+#include <cstdio>
+#include <fstream>
+#include <memory>
+{headers}
+
+namespace lr = lemonrudder;
+
+struct Relay {{
+  std::string reference;
+  std::unique_ptr<lr::idl::Caller> held;
+  lr::idl::Caller& relayed() {{
+    if (!held) held = std::make_unique<lr::idl::Caller>(*lr::idl::Caller::of(reference));
+    return *held;
+  }}
+}};
+
+template <class Op, class... Results>
+lr::Done answered(lr::idl::Asking<Op>& call, const std::tuple<Results...>& results) {{
+  return std::apply([&](const auto&... one) {{ return call.answer(one...); }}, results);
+}}
+template <class Op>
+lr::Done answered(lr::idl::Asking<Op>& call, const std::monostate&) {{ return call.answer(); }}
+template <class Op, class One>
+lr::Done answered(lr::idl::Asking<Op>& call, const One& one) {{ return call.answer(one); }}
+
+template <class Op, class... Raised>
+lr::Done raised(lr::idl::Asking<Op>& call, const typename Op::_outcome& outcome, lr::idl::Raises<Raised...>) {{
+  std::unique_ptr<lr::Done> done;
+  [[maybe_unused]] const auto one = [&](const auto* found) {{
+    if (found) done = std::make_unique<lr::Done>(call.raise(*found));
+  }};
+  (one(outcome.template raised<Raised>()), ...);
+  return done ? *done : call.system(lr::SystemException::unknown, lr::Completed::maybe);
+}}
+
+template <class Op>
+lr::Done passed(lr::idl::Asking<Op>& call, const typename Op::_outcome& outcome) {{
+  return outcome ? answered(call, *outcome) : raised(call, outcome, typename Op::_raises());
+}}
+
+{relays}
+
+static lr::Loop loop;
+static int count = 0;
+
+template <class Made>
+static bool serve(std::ifstream& behind) {{
+  static Made made;
+  std::getline(behind, made.reference);
+  return bool(made._offer(loop, "object " + std::to_string(count++)));
+}}
+
+int main(int, char** words) {{
+  std::ifstream behind(words[1]);
+  if (!({served})) return 1;
+  if (!loop.open() || loop.listen("127.0.0.1", 0) || loop.stop_at(SIGTERM)) return 1;
+  for (int at = 0; at < count; at++) std::puts(loop.reference("object " + std::to_string(at))->c_str());
+  std::fflush(stdout);
+  return loop.serve() ? 1 : 0;
+}}
+"""
+
+
+def relayed_in_cpp(line: str) -> str:
+    """A method in C++ that hands its call to another object; one by octets is not relayed."""
+    name, asking, words = re.fullmatch(r" *virtual ::lemonrudder::Done (\w+)\((.*?)& _call(.*)\) = 0;", line).groups()
+    if not asking.endswith(">"):
+        return f"  lr::Done {name}({asking}& call) override {{ return call.refuse(lr::SystemException::no_implement); }}"
+    parts = [re.sub(r"\w+$", f"a{number}", one) for number, one in enumerate(parts_of(words))]
+    given = ", ".join(f"a{number}" for number in range(len(parts)))
+    stub = asking.partition("<")[2].partition("::_ops::")[0]
+    return (f"  lr::Done {name}({', '.join([f'{asking}& call', *parts])}) override "
+            f"{{ return passed(call, {stub}(relayed()).{name}({given})); }}")
+
+
+def servants_in(header: str) -> List[str]:
+    """The classes of servants in a header of what is made in C++."""
+    with open(header, encoding="ascii") as file:
+        return re.findall(r"^class \w+ : public virtual (?:::POA_|::lemonrudder::idl::Servant).*?^\};", file.read(),
+                          re.M | re.S)
+
+
+def in_cpp(files: List[Declared], folder: str, name: str) -> str:
+    """A relay by what is made of files in C++ in a folder, compiled."""
+    headers = sorted(os.path.basename(path) for path in glob.glob(os.path.join(folder, "*_idl.hpp")))
+    bodies = {header: servants_in(os.path.join(folder, header)) for header in headers}
+    classes: Dict[str, str] = {}
+    lines: List[str] = []
+    for one in {each: one for file in files for each, one in file.interfaces.items()}.values():
+        some = bodies[re.sub(r"\W", "_", base_of(one.file)) + "_idl.hpp"]
+        body = some.pop(next(at for at, each in enumerate(some) if each.startswith(f"class {one.cpp[-1]} ")))
+        classes[one.name] = f"Relay_{len(classes)}"
+        heads = [f"::POA_{'::'.join(one.cpp)}", *(classes[base] for base in one.bases), "Relay"]
+        lines += [f"class {classes[one.name]} : {', '.join(f'public virtual {head}' for head in heads)} {{", " public:",
+                  *map(relayed_in_cpp, re.findall(r"^ *virtual [^;]* = 0;", body, re.M)), "};"]
+    served = " && ".join(f"serve<{classes[one.name]}>(behind)" for file in files for one in file.here)
+    source = os.path.join(folder, "relay.cpp")
+    with open(source, "w", encoding="ascii") as file:
+        file.write(CPP.format(headers="\n".join(f'#include "{header}"' for header in headers), served=served,
+                              relays="\n".join(lines)))
+    return compiled("g++", name, source, flags=["-O0", f"-I{folder}"])
+
+
 # ---- the exchange ----
 
 class Answer:
@@ -431,14 +548,16 @@ class Exchange:
                 lr.idl.add(server, f"object {number}", self.answer.servant(values, one))
             await server.listen("127.0.0.1")
             found = [str(server.reference(f"object {number}")) for number in range(len(served))]
-            with contextlib.ExitStack() as stack:
-                for words in relays:
-                    found = stack.enter_context(relaying(words, found))
-                for (values, one), reference in zip(served, found):
+            with behind(found, *relays) as references:
+                for (values, one), reference in zip(served, references):
                     async with values.made(one.file, one.name)._of(reference) as stub:
-                        for operation in values.file.operations(one):
-                            with self.test.subTest(f"{values.file.base}: {one.name}::{operation.name}"):
-                                await self.operation(values, stub, operation)
+                        await self.interface(values, stub, one)
+
+    async def interface(self, values: Values, stub: Any, one: Interface) -> None:
+        """Calls all operations of an interface."""
+        for operation in values.file.operations(one):
+            with self.test.subTest(f"{values.file.base}: {one.name}::{operation.name}"):
+                await self.operation(values, stub, operation)
 
     async def operation(self, values: Values, stub: Any, operation: Operation) -> None:
         """Calls an operation, which is one with types where these can be made."""

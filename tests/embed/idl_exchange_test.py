@@ -10,21 +10,23 @@ import asyncio
 import atexit
 import functools
 import glob
+import itertools
 import os
 import random
 import sys
 import tempfile
 import unittest
+from collections.abc import Iterable, Iterator
 from typing import List
 
 from tests import base
-from tests.embed import idl_files_test, idl_random
+from tests.embed import idl_exchange, idl_files_test, idl_random
 from tests.embed.idl_exchange import Declared, Exchange, OmniOrb, declared
 from tests.embed.idl_files_test import ENDPOINT, FOLDERS, TWICE, omniidl, want_files
 from tests.programs import needs
 
-# how many of omniORB's files a seed chooses, and how many random ones it makes
-FEW, COUNT = 12, 6
+# how many of omniORB's files a seed chooses, and for C++, and how many random ones it makes
+FEW, FEWER, COUNT = 8, 2, 4
 # omniORB has the interfaces of this one as local objects
 LOCAL = "poa"
 # what all files have: operations with types, and calls of them by results and by each exception
@@ -40,7 +42,8 @@ class Made:
         self.files, self.folder = files, top.name
         self.omniorb = OmniOrb(os.path.join(top.name, "omniorb"), files, *folders)
         python = os.path.join(top.name, "python")
-        ran = omniidl(self.omniorb.paths, python, "-Wbpartial,python")
+        self.made = python
+        ran = omniidl(self.omniorb.paths, python, "-Wbpartial,python,cpp")
         if ran.returncode != 0:
             raise AssertionError(ran.stderr)
         sys.path.insert(0, python)
@@ -50,21 +53,27 @@ class Made:
         """The words that run the relay over omniORB."""
         return [self.omniorb.program(), *ENDPOINT]
 
+    @functools.cached_property
+    def in_cpp(self) -> List[str]:
+        """.. and the one in C++."""
+        return [idl_exchange.in_cpp(self.files, self.made, f"relay{len(sys.path)}")]
+
+
+def with_operations(paths: Iterable[str]) -> Iterator[Declared]:
+    """The files of these that the front end takes, and that have operations of remote objects."""
+    for path in paths:
+        for file in declared(idl_files_test.taken([path]), *FOLDERS):
+            if file.here and file.base != LOCAL:
+                yield file
+
 
 @functools.lru_cache(maxsize=None)
-def with_operations() -> List[Declared]:
-    """Those of omniORB's files that the front end takes and that have operations of remote objects."""
+def of_omniorb(seed: int, count: int = FEW) -> List[Made]:
+    """Files of omniORB; what another one has too is made apart."""
     want_files()
     paths = [path for folder in FOLDERS for path in sorted(glob.glob(os.path.join(folder, "*.idl")))]
-    files = declared(idl_files_test.taken(paths), *FOLDERS)
-    return [file for file in files if file.here and file.base != LOCAL]
-
-
-@functools.lru_cache(maxsize=None)
-def of_omniorb(seed: int) -> List[Made]:
-    """Files of omniORB; what another one has too is made apart."""
-    files = with_operations()
-    some = files if os.environ.get("ALL_FILES") else random.Random(seed).sample(files, FEW)
+    random.Random(seed).shuffle(paths)
+    some = list(itertools.islice(with_operations(paths), None if os.environ.get("ALL_FILES") else count))
     parts = [[file for file in some if (f"{file.base}.idl" == TWICE) == is_twice] for is_twice in (False, True)]
     return [Made(part, *FOLDERS) for part in parts if part]
 
@@ -74,7 +83,7 @@ def of_random(seed: int) -> List[Made]:
     """Random files."""
     top = tempfile.TemporaryDirectory(prefix="idl_random")
     atexit.register(top.cleanup)
-    paths = idl_random.written(idl_random.random_files(seed, COUNT, True), top.name)
+    paths = idl_random.written(idl_random.random_files(seed, COUNT, is_tame=True), top.name)
     return [Made(declared(paths, top.name), top.name)]
 
 
@@ -101,6 +110,18 @@ class Python(unittest.TestCase):
     def test_random(self, seed: int) -> None:
         """Operations of random files."""
         self.exchanged(of_random(seed), seed)
+
+
+@needs("omniidl", "g++")
+class Cpp(unittest.TestCase):
+    """Servants and stubs in C++."""
+
+    @base.each_seed(1, 1)
+    def test_files(self, seed: int) -> None:
+        """Operations of omniORB's files, before and behind omniORB."""
+        for made in of_omniorb(seed, FEWER):
+            for relays in ((made.relay, made.in_cpp), (made.in_cpp, made.relay)):
+                asyncio.run(Exchange(self, made.files, seed).through(*relays))
 
 
 if __name__ == "__main__":

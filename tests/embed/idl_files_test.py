@@ -14,14 +14,14 @@ import subprocess
 import sys
 import tempfile
 import unittest
-from collections.abc import Iterable
+from collections.abc import Callable, Iterable
 from typing import Any
 
 from scripts.library import VERSION
 from tests import base
-from tests.embed import idl_random, idl_rust_test, idl_test
+from tests.embed import idl_random, idl_test
 from tests.embed.idl_c_test import words_of
-from tests.embed.idl_rust_test import KIT, MANIFEST, TOKIO
+from tests.embed.idl_rust_test import KIT, MANIFEST
 from tests.embed.idl_test import EMBED, FOLDER, LANGUAGES, compiled, lr, made, omniorb_program, run, serving
 from tests.programs import NEEDS, ROOT, needs, tool
 
@@ -32,8 +32,11 @@ FOLDERS = (OMNIORB, os.path.join(OMNIORB, "COS"))
 TAKEN = 61
 # .. what declares all that another one declares, so that it is made in a folder of its own
 TWICE = "Naming.idl"
-# how many random files a seed stands for
-COUNT = 4
+# how many random files a seed stands for, how many declarations each of their modules has at most, and how many of them
+# each compiler of C++ and that of Rust are shown, which take most of the time, and with these mypy as packages
+COUNT, SIZE, FEW = 300, 2, 4
+# mypy keeps here what it knows of what all stand on
+KNOWN = os.path.join(FOLDER.name, "mypy")
 OF_C = ["-std=c11", "-Wall", "-Wextra", "-Wpedantic", "-Wshadow", "-Wconversion"]
 OF_CPP = ["-std=c++17", "-Wall", "-Wextra"]
 OF_HEADERS = ["-std=c++11", "-Wall", "-Wextra", "-Wpedantic"]
@@ -41,10 +44,11 @@ STRICT = "#![allow(dead_code)]\n#![deny(warnings, unsafe_code)]\n"
 
 
 def omniidl(paths: Iterable[str], folder: str, *words: str) -> subprocess.CompletedProcess[str]:
-    """A run of the backend on files, which may include omniORB's and each other."""
+    """A run of the backend on files, which may include omniORB's and each other. (It finds no rustfmt.)"""
     found = [f"-I{each}" for each in (*FOLDERS, os.path.dirname(folder))]
     command = [tool("omniidl"), *found, "-p", os.path.join(ROOT, "idl"), "-blemonrudder", *words, f"-Wbfolder={folder}"]
-    return subprocess.run([*command, *paths], capture_output=True, text=True, timeout=idl_test.SECONDS, check=False)
+    return subprocess.run([*command, *paths], capture_output=True, text=True, timeout=idl_test.SECONDS, check=False,
+                          env={**os.environ, "PATH": "/nowhere"})
 
 
 def taken(paths: Iterable[str]) -> list[str]:
@@ -52,6 +56,16 @@ def taken(paths: Iterable[str]) -> list[str]:
     words = [tool("omniidl"), *(f"-I{folder}" for folder in FOLDERS)]
     return [path for path in paths if subprocess.run(
         [*words, path], capture_output=True, check=False, timeout=idl_test.SECONDS).returncode == 0]
+
+
+def number_of(name: str) -> str:
+    """The number of a random file, which its modules have."""
+    return "".join(re.findall(r"\d+", name)[:1])
+
+
+def rust_name(name: str) -> str:
+    """The module in Rust of a random file."""
+    return re.sub(r"(?<=[a-z])(?=[A-Z])", "_", name).lower() + "_idl.rs"
 
 
 def want_files() -> None:
@@ -66,35 +80,55 @@ class Judge:
     def __init__(self, folder: str) -> None:
         self.folder = folder
 
-    def names(self, end: str, *but: str) -> list[str]:
+    def names(self, end: str) -> list[str]:
         found = (os.path.basename(path) for path in glob.glob(os.path.join(self.folder, f"*_idl{end}")))
-        return sorted(name for name in found if name[:-len("_idl" + end)] not in ("lemonrudder", *but))
+        return sorted(name for name in found if name != f"lemonrudder_idl{end}")
 
-    def compiles(self, compiler: str, end: str, flags: list[str], *but: str) -> None:
-        """One source includes all sources or headers, but for some."""
+    def whole(self, header: str) -> set[str]:
+        """A header in C++, and those that it includes."""
+        with open(os.path.join(self.folder, header), encoding="ascii") as file:
+            found = re.findall(r'^#include "(\w+_idl\.hpp)"', file.read(), re.M)
+        return {header}.union(*(self.whole(one) for one in found if one != "lemonrudder_idl.hpp"))
+
+    def halves(self, seed: int) -> list[list[str]]:
+        """The headers in C++ in two parts, of which few include the same."""
+        names = self.names(".hpp")
+        random.Random(seed).shuffle(names)
+        halves: list[list[str]] = [[], []]
+        seen: list[set[str]] = [set(), set()]
+        for name in sorted(names, key=lambda name: -len(self.whole(name))):
+            open_ones = [at for at in (0, 1) if len(halves[at]) <= len(names) // 2]
+            at = min(open_ones, key=lambda at: (len(self.whole(name) - seen[at]), len(seen[at])))
+            halves[at].append(name)
+            seen[at] |= self.whole(name)
+        return halves
+
+    def compiles(self, compiler: str, end: str, flags: list[str], some: Iterable[str] | None = None) -> None:
+        """One source includes sources or headers: all, where none are given."""
         source = os.path.join(self.folder, f"all{end.replace('h', 'c')}")
         with open(source, "w", encoding="ascii") as file:
-            file.writelines(f'#include "{name}"\n' for name in self.names(end, *but))
+            file.writelines(f'#include "{name}"\n' for name in some or self.names(end))
         run(tool(compiler), *flags, "-Werror", f"-I{os.path.join(ROOT, 'embed', 'include')}", "-fsyntax-only", source)
 
-    def python(self) -> None:
-        """Each module and package is imported, and mypy has nothing to say."""
-        packages = glob.glob(os.path.join(self.folder, "**", "__init__.py"), recursive=True)
-        modules = [os.path.relpath(os.path.dirname(path), self.folder).replace(os.sep, ".") for path in packages]
-        modules += [name[:-3] for name in self.names(".py")]
+    def python(self, is_seen: Callable[[str], bool] = lambda package: True) -> None:
+        """Each module and package is imported, and mypy has nothing to say of modules, and of packages, which say what is
+        in modules, as far as it is to see them."""
+        found = glob.glob(os.path.join(self.folder, "**", "__init__.py"), recursive=True)
+        packages = [os.path.relpath(os.path.dirname(path), self.folder).replace(os.sep, ".") for path in found]
+        modules = [name[:-3] for name in self.names(".py")]
         path = os.path.join(ROOT, "bindings", "python")
         each = "import importlib, sys\nfor name in sys.argv[1:]: importlib.import_module(name)"
-        run(sys.executable, "-c", each, *modules, cwd=self.folder, env={
+        run(sys.executable, "-c", each, *packages, *modules, cwd=self.folder, env={
             **os.environ, "PYTHONPATH": os.pathsep.join([self.folder, path])})
-        run(tool("mypy"), "--strict", "--no-error-summary", "--cache-dir", os.path.join(self.folder, ".cache"),
-            *(word for module in modules for word in ("-m", module)), cwd=self.folder,
+        run(tool("mypy"), "--strict", "--no-error-summary", "--cache-dir", KNOWN,
+            *(word for module in (*filter(is_seen, packages), *modules) for word in ("-m", module)), cwd=self.folder,
             env={**os.environ, "MYPYPATH": path})
 
-    def rust(self, name: str) -> None:
-        """A crate of all modules compiles without a warning."""
+    def rust(self, name: str, some: Iterable[str] | None = None) -> None:
+        """A crate of modules, all where none are given, compiles without a warning."""
         folder = os.path.join(self.folder, "crate")
         os.makedirs(os.path.join(folder, "src"))
-        for source in self.names(".rs"):
+        for source in some or self.names(".rs"):
             os.rename(os.path.join(self.folder, source), os.path.join(folder, "src", source))
         with open(os.path.join(folder, "Cargo.toml"), "w", encoding="ascii") as file:
             file.write(MANIFEST.format(name=name, root=ROOT))
@@ -139,12 +173,9 @@ class OmniOrb(unittest.TestCase):
 
     @base.each_seed(1, 1)
     def test_cpp(self, seed: int) -> None:
-        """All headers in C++ compile, by either compiler a half of them, which the seed says."""
-        names = [name for name in self.judge.names(".hpp") if name.endswith("_idl.hpp")]
-        random.Random(seed).shuffle(names)
-        half = {name[:-len("_idl.hpp")] for name in names[:len(names) // 2]}
-        self.judge.compiles("g++", ".hpp", OF_CPP, *half)
-        self.judge.compiles("clang++", ".hpp", OF_CPP, *{name[:-len("_idl.hpp")] for name in names} - half)
+        """All headers in C++ compile, by either compiler about a half of them, which the seed says."""
+        for compiler, names in zip(random.Random(seed).sample(("g++", "clang++"), 2), self.judge.halves(seed)):
+            self.judge.compiles(compiler, ".hpp", OF_CPP, names)
         self.apart.compiles("g++", ".hpp", OF_CPP)
 
     def test_python(self) -> None:
@@ -164,19 +195,20 @@ class Random(unittest.TestCase):
 
     @base.each_seed(1, 1)
     def test_random(self, seed: int) -> None:
-        """They are taken, and compile in each language."""
+        """They are taken, and compile in each language, of which C++ and Rust are shown a few."""
         want_files()
         with tempfile.TemporaryDirectory(prefix="idl_random") as top:
-            paths, folder = idl_random.written(idl_random.random_files(seed, COUNT), top), os.path.join(top, "made")
-            ran = omniidl(paths, folder, "-Wbpartial," + ",".join(LANGUAGES))
+            files, folder = idl_random.random_files(seed, COUNT, SIZE), os.path.join(top, "made")
+            ran = omniidl(idl_random.written(files, top), folder, "-Wbpartial," + ",".join(LANGUAGES))
             self.assertEqual(ran.returncode, 0, ran.stderr)
-            judge = Judge(folder)
-            judge.python()
+            judge, some = Judge(folder), random.Random(seed).sample(files, 3 * FEW)
+            numbers = {"", *(number_of(file.name) for file in some)}
+            judge.python(lambda package: number_of(package) in numbers)
             judge.compiles("gcc", ".c", OF_C)
             judge.compiles("g++", ".h", OF_HEADERS)
-            for compiler in ("g++", "clang++"):
-                judge.compiles(compiler, ".hpp", OF_CPP)
-            judge.rust("random-files")
+            for compiler, few in (("g++", some[:FEW]), ("clang++", some[FEW:2 * FEW])):
+                judge.compiles(compiler, ".hpp", OF_CPP, [f"{file.name}_idl.hpp" for file in few])
+            judge.rust("random-files", {rust_name(one.name) for file in some for one in file.whole()})
 
 
 # ---- the store ----
@@ -291,11 +323,11 @@ def in_c() -> list[str]:
 
 
 def in_rust() -> list[str]:
-    idl_rust_test.want_tokio()
+    """.. in Rust, whose program a shell ends."""
     with open(source(".rs"), encoding="utf-8") as file:
-        folder = KIT.package("store", file.read(), TOKIO)
+        folder = KIT.package("store", file.read())
     os.rename(os.path.join(FOLDER.name, "store_idl.rs"), os.path.join(folder, "src", "store_idl.rs"))
-    return [KIT.built(folder, "store")]
+    return ["sh", "-c", '"$0" "$@" & trap "kill $!" TERM; wait; exit 0', KIT.built(folder, "store")]
 
 
 WAYS = {"Python": in_python, "C++": in_cpp, "C": in_c, "Rust": in_rust}
@@ -356,7 +388,8 @@ interface Both : AE, EA {};
 // words of the languages, and of what is made
 interface Phone { void dial(in string call, in long caller, in long key); };
 struct Classes { long mro; };
-enum Numbers { real, imag, numerator, name, value, to_bytes };
+enum Numbers { real, imag, numerator, denominator, conjugate, name, value, to_bytes, from_bytes, bit_length, bit_count,
+               as_integer_ratio, is_integer, mro };
 struct Macros { long errno; long assert; short SIGTERM; };
 enum More { POLLIN, EOF };
 interface lemonrudder { string f(); };

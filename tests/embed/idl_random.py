@@ -53,14 +53,21 @@ class File:
     types: Dict[str, bool]
     interfaces: List[Interface]
     exceptions: Dict[str, bool]
+    included: List["File"]
+
+    def whole(self) -> List["File"]:
+        """It, and all that it includes."""
+        return list({file.name: file for one in self.included for file in one.whole()}.values()) + [self]
 
 
 class Maker:
     """Makes one file of a number, which all its names outside of modules have. is_tame: of names that are no words of a
-    language, and without what can't be made."""
+    language, and without what can't be made. size: how many declarations each of its modules has
+    at most."""
 
-    def __init__(self, dice: random.Random, number: int, others: List[File], inherited: Set[str], is_tame: bool) -> None:
-        self.dice, self.number, self.lines, self.is_tame = dice, number, [], is_tame
+    def __init__(self, dice: random.Random, number: int, others: List[File], inherited: Set[str], size: int,
+                 is_tame: bool) -> None:
+        self.dice, self.number, self.lines, self.size, self.is_tame = dice, number, [], size, is_tame
         self.included = dice.sample(others, min(len(others), dice.choice([0, 0, 1, 2])))
         self.types: Dict[str, bool] = {name: can for file in self.included for name, can in file.types.items()}
         self.interfaces = [one for file in self.included for one in file.interfaces]
@@ -258,24 +265,24 @@ class Maker:
             "native Handle; valuetype Boxed wstring; typedef fixed<5, 2> Money;",
             "valuetype Own { public long x; }; local interface Nearby { enum Inner { a, b }; void f(); };",
             "abstract interface Vague { void g(in Handle x); long h(); };", "};"]
-        self.declare("", self.dice.randint(0, 4))
+        self.declare("", self.dice.randint(0, self.size // 2))
         self.lines.append(f"module m_{self.number} {{")
-        self.declare(f"::m_{self.number}", self.dice.randint(3, 9))
+        self.declare(f"::m_{self.number}", self.dice.randint(1, self.size))
         inner = self.word(f"::m_{self.number}")
         self.lines.append(f"module {inner} {{")
-        self.declare(f"::m_{self.number}::{inner}", self.dice.randint(2, 8))
+        self.declare(f"::m_{self.number}::{inner}", self.dice.randint(1, self.size))
         vague = [] if self.is_tame else [f"interface from_{self.number} : ::odd_{self.number}::Vague {{}};"]
         self.lines += ["};", "};", *vague, "#endif", ""]
         return File(name, "\n".join(self.lines), {one: can for one, can in self.types.items() if one not in before[1]},
                     self.interfaces[before[0]:],
-                    {one: can for one, can in self.exceptions.items() if one not in before[2]})
+                    {one: can for one, can in self.exceptions.items() if one not in before[2]}, self.included)
 
 
-def random_files(seed: int, count: int, is_tame: bool = False) -> List[File]:
-    """So many files, some of which include others of them."""
+def random_files(seed: int, count: int, size: int = 8, is_tame: bool = False) -> List[File]:
+    """So many files of about this size, some of which include others of them."""
     dice, files, inherited = random.Random(seed), [], set()
     for number in range(count):
-        files.append(Maker(dice, number, files[-3:], inherited, is_tame).made())
+        files.append(Maker(dice, number, files[-3:], inherited, size, is_tame).made())
     return files
 
 

@@ -264,6 +264,8 @@ TOKIO = """tokio = {{ version = "1.24", features = ["macros", "net", "rt"] }}
 tokio-bank = {{ path = "{root}/bindings/rust/examples/tokio" }}
 """
 STRICT = ["--", "-D", "warnings", "-D", "unsafe-code"]
+# what is built once needs nothing for a debugger, or for the next build
+LIGHT = {"CARGO_PROFILE_DEV_DEBUG": "0", "CARGO_INCREMENTAL": "0"}
 
 
 def want_tokio() -> None:
@@ -291,7 +293,7 @@ class Kit:
         """Runs a command of cargo that is to succeed in a package."""
         # (clippy calls cargo again with what stands behind it)
         status, said = rust_test.cargo(self.target, os.path.join(library(), "lib"), command, "--offline",
-                                       *rust_test.OF_REGISTRY, *words, cwd=folder)
+                                       *rust_test.OF_REGISTRY, *words, cwd=folder, **LIGHT)
         if status != 0:
             raise AssertionError(said)
 
@@ -315,7 +317,7 @@ class Kit:
 
     def faults(self, folder: str) -> list[str]:
         """The numbers of the errors for which a package does not compile."""
-        _, said = rust_test.cargo(self.target, os.path.join(library(), "lib"), "check", "--offline", cwd=folder)
+        _, said = rust_test.cargo(self.target, os.path.join(library(), "lib"), "check", "--offline", cwd=folder, **LIGHT)
         return re.findall(r"^error\[(\w+)\]", said, re.M)
 
     def bank(self) -> list[str]:

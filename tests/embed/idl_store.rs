@@ -8,9 +8,9 @@ use lemonrudder::cdr::Writer;
 use lemonrudder::idl::{read, write, Asking, Body, Exception, Failure, Object};
 use lemonrudder::*;
 use std::env;
+use std::io::{Read, Write};
+use std::net::TcpListener;
 use store_idl::store::{self, deep, BoxServant, Deep, DeepServant, Missing, NamedServant, Node};
-use tokio::net::TcpListener;
-use tokio_bank::{serve, share, Servant, Shared};
 
 const TK_STRING: u32 = 18;
 
@@ -61,31 +61,30 @@ impl DeepServant for Own {
     }
 }
 
-struct Served {
-    server: Server,
-    own: Own,
-}
-
-impl Servant for Served {
-    fn server(&mut self) -> &mut Server {
-        &mut self.server
-    }
-
-    fn feed(&mut self, _: &Shared<Served>, connection: u64, came: &[u8]) -> Result<usize, Error> {
-        let Served { server, own } = self;
-        server.serve(connection, Moment::now(), came, |request| deep::perform(own, request))
-    }
-}
-
-#[tokio::main(flavor = "current_thread")]
-async fn run() -> Result<(), std::boxed::Box<dyn std::error::Error>> {
+/// Serves one connection after another.
+fn run() -> Result<(), std::boxed::Box<dyn std::error::Error>> {
     let mut catalogue = Catalogue::open()?;
     deep::offer(&mut catalogue, "deep")?;
-    let server = Server::open(catalogue, &Settings::default())?;
-    let listener = TcpListener::bind("127.0.0.1:0").await?;
+    let mut server = Server::open(catalogue, &Settings::default())?;
+    let listener = TcpListener::bind("127.0.0.1:0")?;
     let port = listener.local_addr()?.port();
     println!("{}", Ior::iiop(deep::ids()[0], Version::V12, "127.0.0.1", port, b"deep")?.to_text()?);
-    serve(listener, &share(Served { server, own: Own })).await
+    let mut room = [0; 4096];
+    for connection in 1.. {
+        let (mut stream, _) = listener.accept()?;
+        server.connect(connection)?;
+        loop {
+            let size = stream.read(&mut room)?;
+            if size == 0 {
+                break;
+            }
+            let serve = |request: &mut Request<'_>| deep::perform(&mut Own, request);
+            server.serve(connection, Moment::now(), &room[..size], serve)?;
+            stream.write_all(&server.take_output(connection))?;
+        }
+        server.lost(connection)?;
+    }
+    Ok(())
 }
 
 fn put(deep: &mut Deep<idl::Caller>, number: i32) -> Result<(), Error> {
