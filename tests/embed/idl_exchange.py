@@ -22,7 +22,7 @@ from collections.abc import Iterable, Iterator
 from typing import Any, Dict, List, Optional, Tuple
 
 from tests.embed import idl_types
-from tests.embed.idl_test import EMBED, ORB, compiled, lr, run
+from tests.embed.idl_test import EMBED, EXAMPLES, ORB, compiled, lr, run
 from tests.programs import tool
 
 BASICS = {one.idl: one for one in idl_types.BASICS}
@@ -506,6 +506,143 @@ def in_cpp(files: List[Declared], folder: str, name: str) -> str:
         file.write(CPP.format(headers="\n".join(f'#include "{header}"' for header in headers), served=served,
                               relays="\n".join(lines)))
     return compiled("g++", name, source, flags=["-O0", f"-I{folder}"])
+
+
+C = """
+/* A relay by what is made in C. What it is handed out it keeps. */
+#define _DEFAULT_SOURCE
+#include <stdio.h>
+#include <string.h>
+#include <unistd.h>
+{headers}
+#include "loop.h"
+
+enum {{ COUNT = {count} }};
+struct relay {{
+  char reference[4096];
+  lr_idl_caller caller;
+  bool is_open;
+}};
+static struct relay all[COUNT];
+static lr_idl_offer offers[COUNT];
+static char keys[COUNT][32];
+
+static int64_t opened(struct relay *relay) {{
+  if (relay->is_open) return LR_OK;
+  relay->caller = (lr_idl_caller)LR_IDL_CALLER;
+  int64_t done = lr_idl_caller_of(&relay->caller, relay->reference);
+  relay->is_open = done == LR_OK;
+  return done;
+}}
+
+static int64_t failed(const lr_idl_call *call) {{
+  return lr_server_system(call->server, call->ticket, LR_EX_UNKNOWN, 0, LR_COMPLETED_MAYBE);
+}}
+
+{relays}
+
+static void perform(lr_server *server, const lr_request *asked) {{
+  const lr_idl_offer *offer = lr_idl_find(offers, COUNT, server, asked);
+  if (offer != NULL) lr_idl_perform(offer, server, asked);
+}}
+
+int main(int count, char **words) {{
+  lr_server server = LR_INIT;
+  lr_catalogue catalogue = LR_INIT;
+  uint16_t port = 0;
+  int listener = loop_listen("127.0.0.1", &port);
+  FILE *behind = fopen(words[count - 1], "r");
+  if (listener < 0 || behind == NULL || lr_catalogue_open(&catalogue) < 0) return 1;
+  for (int at = 0; at < COUNT; at++) {{
+    if (fgets(all[at].reference, sizeof all[at].reference, behind) == NULL) return 1;
+    all[at].reference[strcspn(all[at].reference, "\\n")] = 0;
+    snprintf(keys[at], sizeof keys[at], "object %d", at);
+  }}
+{served}
+  for (int at = 0; at < COUNT; at++)
+    if (lr_idl_add(&catalogue, &offers[at]) < 0) return 1;
+  if (lr_server_open(&server, &catalogue, 1, 2) < 0) return 1;
+  for (int at = 0; at < COUNT; at++)
+    if (loop_print(LR_TEXT(""), 2, "127.0.0.1", port, keys[at], strlen(keys[at])) < 0) return 1;
+  fflush(stdout);
+  int served = loop_serve(&server, listener, perform, NULL);
+  lr_server_close(&server);
+  return served == 0 ? 0 : 1;
+}}
+"""
+
+
+def parameters(words: str) -> Dict[str, str]:
+    """The parameters in C of a function, by their names."""
+    found = (re.fullmatch(r"(.*?)(\w+)", one.strip()) for one in words.split(","))
+    return {one[2]: one[1].strip() for one in found if one}
+
+
+def copied(type: str, name: str) -> str:
+    """What makes a variable in C of an argument that comes back."""
+    if type.startswith("const char"):
+        return f"  v_{name} = strdup({name});"
+    inner = type.removeprefix("const ").removesuffix("*").strip()
+    return f"  if ({inner}__copy({name}, &v_{name}) < 0) return failed(_call);" if "*" in type else f"  v_{name} = {name};"
+
+
+def relayed_in_c(name: str, function: str, prototypes: Dict[str, str], given: str, raises: List[str]) -> List[str]:
+    """A function in C that hands its call to another object: of a name, of what is made of an operation, and of the
+    parameters of a servant."""
+    asked, answers, mine = (parameters(one) for one in (prototypes[function], prototypes[f"{function}__answer"], given))
+    outs = {each: type[:-1].strip() for each, type in asked.items()
+            if type.endswith("*") and not type.startswith("const ") and each != "_raised"}
+    passed = ["lr_idl_object_of(&relay->caller)"] + [
+        f"&v_{each}" if each in outs else "&raised" if each == "_raised" else each for each in list(asked)[1:]]
+    told = ["_call", *(f"&v_{each}" if type.endswith("*") and "char" not in type else f"v_{each}"
+                       for each, type in list(answers.items())[1:])]
+    lines = [f"static int64_t {name}({given}) {{", "  struct relay *relay = _self;", "  lr_idl_raised raised = LR_IDL_RAISED;",
+             *(f"  {type} v_{each};" for each, type in outs.items()),
+             *(f"  memset(&v_{each}, 0, sizeof v_{each});" for each in outs),
+             "  if (opened(relay) < 0) return failed(_call);",
+             *(copied(mine[each], each) for each in outs if each in mine),
+             f"  int64_t done = {function}({', '.join(passed)});",
+             f"  if (done == LR_OK) return {function}__answer({', '.join(told)});"]
+    for each in raises:
+        found = flat(each)
+        lines.append(f"  if ({found}__of(&raised) != NULL) return {found}__raise(_call, {found}__of(&raised));")
+    return [*lines, "  return failed(_call);", "}"]
+
+
+def offered_in_c(at: int, one: Interface, file: Declared, text: str, prototypes: Dict[str, str]) -> Tuple[List[str], str]:
+    """The functions in C of a relay, and what puts it on offer."""
+    fields = re.search(rf"typedef struct POA_{flat(one.name)} \{{(.*?)^\}}", text, re.M | re.S)[1]
+    lines: List[str] = []
+    names = ["&all[%d]" % at]
+    raises = {each.name: each.raises for each in file.operations(one)}
+    for field, given in re.findall(r"int64_t \(\*(\w+)\)\((.*?)\);", fields):
+        functions = (f"{flat(base.name)}_{field}" for base in above(one, file.interfaces))
+        function = next(each for each in functions if each in prototypes)
+        is_octets = "lr_idl_body" in given + prototypes[function]
+        names.append("NULL" if is_octets else f"relay_{at}_{field}")
+        if not is_octets:
+            lines += relayed_in_c(names[-1], function, prototypes, given, raises[field])
+    lines.append(f"static const POA_{flat(one.name)} servant_{at} = {{{', '.join(names)}}};")
+    return lines, f"  offers[{at}] = POA_{flat(one.name)}__offer(&servant_{at}, keys[{at}], strlen(keys[{at}]));"
+
+
+def in_c(files: List[Declared], folder: str, name: str) -> str:
+    """A relay by what is made of files in C in a folder, compiled."""
+    headers = sorted(glob.glob(os.path.join(folder, "*_idl.h")))
+    text = ""
+    for header in headers:
+        with open(header, encoding="ascii") as file:
+            text += re.sub(r"\n +(?!int64_t|void)", " ", file.read())
+    prototypes = dict(re.findall(r"^int64_t (\w+)\((.*?)\);", text, re.M))
+    made = [offered_in_c(at, one, file, text, prototypes)
+            for at, (file, one) in enumerate((file, one) for file in files for one in file.here)]
+    source = os.path.join(folder, "relay.c")
+    with open(source, "w", encoding="ascii") as file:
+        file.write(C.format(headers="\n".join(f'#include "{os.path.basename(header)}"' for header in headers),
+                            relays="\n".join(line for lines, _ in made for line in lines), count=len(made),
+                            served="\n".join(line for _, line in made)))
+    return compiled("gcc", name, source, *glob.glob(os.path.join(folder, "*_idl.c")), os.path.join(EXAMPLES, "loop.c"),
+                    flags=["-pthread", f"-I{folder}", f"-I{EXAMPLES}"])
 
 
 # ---- the exchange ----

@@ -1,8 +1,9 @@
 """Tests that what is made of IDL as systems have it speaks to omniORB: operations of omniORB's own files, and of random ones.
 
 Each operation with types is called with random arguments, results and exceptions through a relay over omniORB, which
-stands on what omniidl makes for it: by omniORB's stubs to our servants, and by ours to omniORB's. A seed chooses some of
-omniORB's files; with ALL_FILES=1 in the environment it is all of them.
+stands on what omniidl makes for it: by omniORB's stubs to our servants, and by ours to omniORB's. Relays of what is made
+in C and C++ stand before and behind that one. A seed chooses some of omniORB's files; with ALL_FILES=1 in the
+environment Python and C are given all.
 """
 from __future__ import annotations
 
@@ -16,8 +17,8 @@ import random
 import sys
 import tempfile
 import unittest
-from collections.abc import Iterable, Iterator
-from typing import List
+from collections.abc import Callable, Iterable, Iterator
+from typing import List, Optional
 
 from tests import base
 from tests.embed import idl_exchange, idl_files_test, idl_random
@@ -25,12 +26,12 @@ from tests.embed.idl_exchange import Declared, Exchange, OmniOrb, declared
 from tests.embed.idl_files_test import ENDPOINT, FOLDERS, TWICE, omniidl, want_files
 from tests.programs import needs
 
-# how many of omniORB's files a seed chooses, and for C++, and how many random ones it makes
-FEW, FEWER, COUNT = 8, 2, 4
+# how many files of omniORB a seed chooses, and for C++, which compiles slowly, and how many random ones it makes
+FEW, FEWER, COUNT = 8, 1, 4
 # omniORB has the interfaces of this one as local objects
 LOCAL = "poa"
 # what all files have: operations with types, and calls of them by results and by each exception
-OPERATIONS, CALLS = 2224, 3209
+OPERATIONS, CALLS = 2251, 3294
 
 
 class Made:
@@ -43,7 +44,7 @@ class Made:
         self.omniorb = OmniOrb(os.path.join(top.name, "omniorb"), files, *folders)
         python = os.path.join(top.name, "python")
         self.made = python
-        ran = omniidl(self.omniorb.paths, python, "-Wbpartial,python,cpp")
+        ran = omniidl(self.omniorb.paths, python, "-Wbpartial,python,cpp,c")
         if ran.returncode != 0:
             raise AssertionError(ran.stderr)
         sys.path.insert(0, python)
@@ -56,7 +57,12 @@ class Made:
     @functools.cached_property
     def in_cpp(self) -> List[str]:
         """.. and the one in C++."""
-        return [idl_exchange.in_cpp(self.files, self.made, f"relay{len(sys.path)}")]
+        return [idl_exchange.in_cpp(self.files, self.made, f"relay{len(sys.path)}_cpp")]
+
+    @functools.cached_property
+    def in_c(self) -> List[str]:
+        """.. in C."""
+        return [idl_exchange.in_c(self.files, self.made, f"relay{len(sys.path)}_c")]
 
 
 def with_operations(paths: Iterable[str]) -> Iterator[Declared]:
@@ -67,13 +73,18 @@ def with_operations(paths: Iterable[str]) -> Iterator[Declared]:
                 yield file
 
 
+def chosen() -> Optional[int]:
+    """How many files of omniORB are chosen; None: all."""
+    return None if os.environ.get("ALL_FILES") else FEW
+
+
 @functools.lru_cache(maxsize=None)
-def of_omniorb(seed: int, count: int = FEW) -> List[Made]:
-    """Files of omniORB; what another one has too is made apart."""
+def of_omniorb(seed: int, count: Optional[int]) -> List[Made]:
+    """So many files of omniORB, or all; what another one has too is made apart."""
     want_files()
     paths = [path for folder in FOLDERS for path in sorted(glob.glob(os.path.join(folder, "*.idl")))]
     random.Random(seed).shuffle(paths)
-    some = list(itertools.islice(with_operations(paths), None if os.environ.get("ALL_FILES") else count))
+    some = list(itertools.islice(with_operations(paths), count))
     parts = [[file for file in some if (f"{file.base}.idl" == TWICE) == is_twice] for is_twice in (False, True)]
     return [Made(part, *FOLDERS) for part in parts if part]
 
@@ -101,8 +112,8 @@ class Python(unittest.TestCase):
     @base.each_seed(1, 1)
     def test_files(self, seed: int) -> None:
         """Operations of omniORB's files."""
-        found = self.exchanged(of_omniorb(seed), seed)
-        if os.environ.get("ALL_FILES"):
+        found = self.exchanged(of_omniorb(seed, chosen()), seed)
+        if chosen() is None:
             counts = sum(one.operations for one in found), sum(one.calls for one in found)
             self.assertEqual(counts, (OPERATIONS, CALLS))
 
@@ -112,15 +123,23 @@ class Python(unittest.TestCase):
         self.exchanged(of_random(seed), seed)
 
 
-@needs("omniidl", "g++")
-class Cpp(unittest.TestCase):
-    """Servants and stubs in C++."""
+@needs("omniidl", "g++", "gcc")
+class Relays(unittest.TestCase):
+    """Servants and stubs in C and C++."""
 
     @base.each_seed(1, 1)
-    def test_files(self, seed: int) -> None:
-        """Operations of omniORB's files, before and behind omniORB."""
-        for made in of_omniorb(seed, FEWER):
-            for relays in ((made.relay, made.in_cpp), (made.in_cpp, made.relay)):
+    def test_c(self, seed: int) -> None:
+        """In C: operations of omniORB's files, before and behind omniORB."""
+        self.exchanged(of_omniorb(seed, chosen()), seed, lambda made: made.in_c)
+
+    @base.each_seed(1, 1)
+    def test_cpp(self, seed: int) -> None:
+        """In C++, likewise."""
+        self.exchanged(of_omniorb(seed, FEWER), seed, lambda made: made.in_cpp)
+
+    def exchanged(self, some: List[Made], seed: int, program: Callable[[Made], List[str]]) -> None:
+        for made in some:
+            for relays in ((made.relay, program(made)), (program(made), made.relay)):
                 asyncio.run(Exchange(self, made.files, seed).through(*relays))
 
 

@@ -310,7 +310,7 @@ def in_python() -> list[str]:
     with open(path, "w", encoding="ascii") as file:
         file.write(PYTHON)
     found = os.pathsep.join([FOLDER.name, os.path.join(ROOT, "bindings", "python")])
-    run(tool("mypy"), "--strict", path, env={**os.environ, "MYPYPATH": found})
+    run(tool("mypy"), "--strict", "--cache-dir", KNOWN, path, env={**os.environ, "MYPYPATH": found})
     return ["env", f"PYTHONPATH={found}", sys.executable, path]
 
 
