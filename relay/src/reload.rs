@@ -182,17 +182,20 @@ impl Reload {
         let named = Named::of(&changing);
         named.says(&self.named);
         self.named = named;
-        for setting in differing(&self.last, &values).filter(|name| live::NAMES.contains(name)) {
-            info!(setting, value = shown(&values, setting), "changed");
-        }
-        let is_read = |name: &str| {
-            live::NAMES.contains(&name) || changing.iter().any(|(file, _)| *file == name)
-        };
-        differing(&self.first, &values)
-            .filter(|name| !is_read(name))
-            .for_each(|setting| warn!(setting, "needs a restart"));
+        let files: Vec<&str> = changing.iter().map(|(name, _)| *name).collect();
+        self.says(&values, &files);
         self.last = values;
         Ok(())
+    }
+
+    /// Says in the log what changed of what the settings say, but for those that name such files, and
+    /// what is as it was when the program began.
+    fn says(&self, now: &Values, files: &[&str]) {
+        let is_live = |name: &str| live::NAMES.contains(&name);
+        let changed = differing(&self.last, now).filter(|name| is_live(name));
+        changed.for_each(|setting| info!(setting, value = shown(now, setting), "changed"));
+        let others = differing(&self.first, now).filter(|it| !is_live(it) && !files.contains(it));
+        others.for_each(|setting| warn!(setting, "needs a restart"));
     }
 }
 
