@@ -155,12 +155,13 @@ class Fragments(unittest.TestCase):
                 yield os.path.join(folder, "kept") if kind == "SQLite" else kind
 
     @base.each(lambda: [(kind, kind) for kind in STORES])
-    def test_a_repeat_is_cut_where_its_first_was(self, kind):
+    def test_a_repeat_is_cut_where_its_first_was(self, kind: str) -> None:
         """By what the store has of it, also once its guard was begun anew; in other versions it is whole."""
         counters = Counters()
         with self.store(kind) as store, self.relay("guard", store, counters.words) as (server, guard):
             until(lambda: counters.asked("/ready")[0] == 200, "it is ready")
-            asked, wanted = {}, {}
+            asked: dict[int, bytes] = {}
+            wanted: dict[int, tuple[bytes, list[bytes]]] = {}
             for number, (size, order, behind) in enumerate((
                     (3, BIG, [0]), (9000, LITTLE, [9000]), (9000, BIG, [8999, 9000]), (70_000, LITTLE, [0, 1, 4096, 69_995]),
                     (20_000, BIG, list(range(5, 15_000))), (20_000, BIG, []))):

@@ -276,7 +276,7 @@ class Signs(unittest.TestCase):
         replies = (message for message in iter(peer.message, None) if message.kind == giop.REPLY)
         return sorted(next(replies).request_id for _ in range(COUNT))
 
-    def test_retry_alone_is_told(self):
+    def test_retry_alone_is_told(self) -> None:
         """Again and again, while nothing is due to it; another client gets what it asked for alone."""
         with guarded(*SHORT) as (server, guard), Peer(guard.port) as retry, Peer(guard.port) as other:
             retry.tell(giop.request(1, b"k", "add", contexts=[(STORE, b"\0")]))
@@ -293,7 +293,7 @@ class Signs(unittest.TestCase):
                 for peer in (retry, other):
                     want(self.answered(peer), list(range(COUNT)))
 
-    def test_nothing_is_sent_again(self):
+    def test_nothing_is_sent_again(self) -> None:
         """However long it hears nobody: it has all that was sent on one connection."""
         with guarded(*SHORT) as (server, guard), Tap(guard.port) as tap, \
                 Relay("retry", "--guard", f"127.0.0.1:{tap.port}", "--connections", "1") as retry:
