@@ -616,12 +616,14 @@ def offered_in_c(at: int, one: Interface, file: Declared, text: str, prototypes:
     names = ["&all[%d]" % at]
     raises = {each.name: each.raises for each in file.operations(one)}
     for field, given in re.findall(r"int64_t \(\*(\w+)\)\((.*?)\);", fields):
-        functions = (f"{flat(base.name)}_{field}" for base in above(one, file.interfaces))
+        # (a keyword begins so)
+        operation = field.removeprefix("_c_")
+        functions = (f"{flat(base.name)}_{operation}" for base in above(one, file.interfaces))
         function = next(each for each in functions if each in prototypes)
         is_octets = "lr_idl_body" in given + prototypes[function]
         names.append("NULL" if is_octets else f"relay_{at}_{field}")
         if not is_octets:
-            lines += relayed_in_c(names[-1], function, prototypes, given, raises[field])
+            lines += relayed_in_c(names[-1], function, prototypes, given, raises[operation])
     lines.append(f"static const POA_{flat(one.name)} servant_{at} = {{{', '.join(names)}}};")
     return lines, f"  offers[{at}] = POA_{flat(one.name)}__offer(&servant_{at}, keys[{at}], strlen(keys[{at}]));"
 
