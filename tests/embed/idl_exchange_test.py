@@ -80,13 +80,13 @@ def chosen() -> Optional[int]:
 
 @functools.lru_cache(maxsize=None)
 def of_omniorb(seed: int, count: Optional[int]) -> List[Made]:
-    """So many files of omniORB, or all; what another one has too is made apart."""
+    """So many files of omniORB, or all, a few together; what another one has too is made apart."""
     want_files()
     paths = [path for folder in FOLDERS for path in sorted(glob.glob(os.path.join(folder, "*.idl")))]
     random.Random(seed).shuffle(paths)
     some = list(itertools.islice(with_operations(paths), count))
     parts = [[file for file in some if (f"{file.base}.idl" == TWICE) == is_twice] for is_twice in (False, True)]
-    return [Made(part, *FOLDERS) for part in parts if part]
+    return [Made(part[at:at + FEW], *FOLDERS) for part in parts for at in range(0, len(part), FEW)]
 
 
 @functools.lru_cache(maxsize=None)
