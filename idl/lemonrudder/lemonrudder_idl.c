@@ -928,8 +928,8 @@ static int64_t keep_octets(const struct reader *in, const unsigned char *octets,
 static int64_t get_any(const struct reader *in, lr_idl_any *any) {
   struct codes codes = {NULL, 0, 0, in};
   const struct walk walk = {&codes, in, NULL};
-  const unsigned char *type, *end;
-  size_t size;
+  const unsigned char *type = NULL, *end = NULL;
+  size_t size = 0;
   int64_t done = pass_code(&walk, &codes, 0, &type, &size);
   if (done == LR_OK) done = pass_value(&walk, 0, 0);
   if (done == LR_OK) done = pass(in, 1, 0, &end);
