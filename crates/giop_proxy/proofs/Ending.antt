@@ -1,0 +1,137 @@
+-- The end of the fields, and the body and the header behind and before them.
+use Rattle.std.proofs.Common.{◌≡◌, ◌⊎◌, inl, inr, ℕ, ◌+◌, ◌-◌, ◌<◌, ◌≤◌, ◌^◌, Bool, true, false, List, [], ◌∷◌, ◌++◌, length, take, drop, map, replicate, Result, Ok, Err, refl, sym, ap, subst, ◌∙◌, arith, append_assoc, length-append}
+use Rattle.std.proofs.lemmas.List.{append-nil, drop-append-le, drop_at, length-drop, length-replicate, take-append-le, take_at}
+use Rattle.cdr_core.specs.declared.order.Order.{Order}
+use Rattle.cdr_core.specs.Numbers.{digits_of, padding, AreOctets}
+use Rattle.cdr_core.specs.Private.{Keeps}
+use Rattle.cdr_core.specs.Value as value
+use Rattle.cdr_core.specs.Value.{Value, Values, no_values, values}
+use Rattle.cdr_core.specs.Writing.{number_octets, octets_of, octets_of_all}
+use Rattle.cdr_core.proofs.Appending.{keeps_all, octets-last}
+use Rattle.cdr_core.proofs.Lengths.{digits_length}
+use Rattle.cdr_core.proofs.Turns.{with_last}
+use Rattle.giop_core.specs.declared.error.WriteError.{WriteError}
+use Rattle.giop_core.specs.declared.error.WriteError.TheVariants.{TooLong, Memory}
+use Rattle.giop_core.specs.declared.header.MessageKind.{MessageKind}
+use Rattle.giop_core.specs.declared.header.MessageKind.TheVariants as kind
+use Rattle.giop_core.specs.declared.header.Version.{Version}
+use Rattle.giop_core.specs.declared.header.Version.TheVariants.{V10, V11, V12}
+use Rattle.giop_core.specs.Headers.{header_octets}
+use Rattle.giop_core.specs.Written.{aligned_octets, behind_gap, behind_header, body_octets, header_for, message_octets, octets_body, Wrote}
+use Rattle.giop_core.proofs.OctetsBody.{body_length, body_read}
+use Rattle.giop_proxy.specs.Placing.{begins_at}
+use Rattle.giop_proxy.specs.PlacingPrivate.{with_octets, Begins, HasBody}
+
+-- a message without a body is its header and its fields
+
+header_length : (version : Version) (kind : MessageKind) (order : Order) (size : ℕ) → length (header_octets (header_for version kind order size)) ≡ 12
+header_length version kind order size = omega (arith, digits_length order 4 size)
+
+bare : (version : Version) (kind : MessageKind) (order : Order) (fields : List Value) → HasBody kind → behind_header version kind order fields no_values ≡ octets_of_all order (values fields) 12
+unfolding behind_header
+bare V10 kind order fields b = append-nil (octets_of_all order (values fields) 12)
+bare V11 kind order fields b = append-nil (octets_of_all order (values fields) 12)
+bare V12 kind order fields (inl is) = rw is (append-nil (octets_of_all order (values fields) 12))
+bare V12 kind order fields (inr is) = rw is (append-nil (octets_of_all order (values fields) 12))
+
+pub begins-bare : (version : Version) (kind : MessageKind) (order : Order) (fields : List Value) (r : Result (Unit {0}) WriteError) (old new : List ℕ) → HasBody kind
+    → Wrote version kind order (behind_header version kind order fields no_values) r old new → Begins order fields r old new
+begins-bare version kind order fields (Ok x) old new b h =
+    let after = behind_header version kind order fields no_values in
+    let same = bare version kind order fields b in
+    (header_octets (header_for version kind order (length after)), header_length version kind order (length after), h.1 ∙ ap (λ (xs : List ℕ). old ++ (header_octets (header_for version kind order (length after)) ++ xs)) same)
+begins-bare version kind order fields (Err TooLong) old new b h = (omega (arith, h.0, ap length (bare version kind order fields b)), keeps_all old new h.1)
+begins-bare version kind order fields (Err Memory) old new b h = keeps_all old new h
+
+-- the principal, which ends the fields
+
+module _ (order : Order) (front : Values) (n : ℕ) (old begun new head : List ℕ) (is : begun ≡ old ++ (head ++ octets_of_all order (with_last front (value.octets [])) 12))
+    (put : new ≡ take (length begun - 4) begun ++ (digits_of order 4 n ++ replicate n 0)) where
+  abbrev before : List ℕ
+  before = octets_of_all order front 12
+
+  abbrev gap : List ℕ
+  gap = replicate (padding (12 + length before) 4) 0
+
+  split : (xs : List ℕ) → octets_of_all order (with_last front (value.octets xs)) 12 ≡ (before ++ gap) ++ (digits_of order 4 (length xs) ++ xs)
+  split xs =
+      octets-last order front (value.octets xs) 12
+      ∙ ap (λ (ys : List ℕ). before ++ ys) (append_assoc gap (digits_of order 4 (length xs)) xs)
+      ∙ sym (append_assoc before gap (digits_of order 4 (length xs) ++ xs))
+
+  whole : (xs : List ℕ) → old ++ (head ++ octets_of_all order (with_last front (value.octets xs)) 12) ≡ (old ++ (head ++ (before ++ gap))) ++ (digits_of order 4 (length xs) ++ xs)
+  whole xs =
+      ap (λ (ys : List ℕ). old ++ (head ++ ys)) (split xs)
+      ∙ ap (λ (ys : List ℕ). old ++ ys) (sym (append_assoc head (before ++ gap) (digits_of order 4 (length xs) ++ xs)))
+      ∙ sym (append_assoc old (head ++ (before ++ gap)) (digits_of order 4 (length xs) ++ xs))
+
+  pub principal-put : new ≡ old ++ (head ++ octets_of_all order (with_last front (value.octets (replicate n 0))) 12)
+  principal-put =
+      let base = old ++ (head ++ (before ++ gap)) in
+      let zero_digits = digits_of order 4 0 in
+      let ends : begun ≡ base ++ (zero_digits ++ []) = is ∙ whole [] in
+      let size : length base ≡ length begun - 4 = omega (arith, ap length ends, length-append base (zero_digits ++ []), length-append zero_digits [], digits_length order 4 0) in
+      let kept : take (length begun - 4) begun ≡ base = ap (take (length begun - 4)) ends ∙ take_at base (zero_digits ++ []) (length begun - 4) size in
+      put ∙ ap (λ (xs : List ℕ). xs ++ (digits_of order 4 n ++ replicate n 0)) kept
+      ∙ ap (λ (m : ℕ). base ++ (digits_of order 4 m ++ replicate n 0)) (sym (length-replicate {A = ℕ} n 0))
+      ∙ sym (whole (replicate n 0))
+
+-- a body behind fields
+
+-- its padding and its octets
+abbrev pub placed_octets : Version → ℕ → List ℕ → List ℕ
+placed_octets V12 end body = behind_gap (padding end 8) body
+placed_octets _ end body = body
+
+-- where it begins; one of no octets begins where the fields end
+abbrev pub begun_at : Version → ℕ → List ℕ → ℕ
+begun_at version end [] = end
+begun_at version end (x ∷ xs) = begins_at version end
+
+pub placed : (version : Version) (kind : MessageKind) (order : Order) (end : ℕ) (body : List ℕ) → HasBody kind → AreOctets body → body_octets version kind order (octets_body body) end ≡ placed_octets version end body
+placed V10 kind order end body b are = body_read order body end are
+placed V11 kind order end body b are = body_read order body end are
+placed V12 kind order end body (inl is) are = rw is (ap (behind_gap (padding end 8)) (body_read order body (end + padding end 8) are))
+placed V12 kind order end body (inr is) are = rw is (ap (behind_gap (padding end 8)) (body_read order body (end + padding end 8) are))
+
+pub placed-none : (version : Version) (end : ℕ) → placed_octets version end [] ≡ []
+placed-none V10 end = refl
+placed-none V11 end = refl
+placed-none V12 end = refl
+
+pub placed-length : (version : Version) (end : ℕ) (body : List ℕ) → end + length (placed_octets version end body) ≡ begun_at version end body + length body
+placed-length V10 end [] = refl
+placed-length V11 end [] = refl
+placed-length V12 end [] = refl
+placed-length V10 end (x ∷ xs) = refl
+placed-length V11 end (x ∷ xs) = refl
+placed-length V12 end (x ∷ xs) =
+    let gap : List ℕ = replicate (padding end 8) 0 in
+    omega (arith, length-append gap (x ∷ xs), length-replicate {A = ℕ} (padding end 8) 0)
+
+pub message-length : (version : Version) (kind : MessageKind) (order : Order) (after : List ℕ) → length (message_octets version kind order after) ≡ 12 + length after
+message-length version kind order after =
+    let head = header_octets (header_for version kind order (length after)) in
+    omega (arith, length-append head after, header_length version kind order (length after))
+
+pub ended-length : (version : Version) (kind : MessageKind) (order : Order) (start : ℕ) (body old : List ℕ) → HasBody kind → AreOctets body → start + 12 ≤ length old
+    → length (message_octets version kind order (with_octets version kind order body (drop (start + 12) old))) ≡ begun_at version (length old - start) body + length body
+ended-length version kind order start body old b are le =
+    let front = drop (start + 12) old in
+    let end : 12 + length front ≡ length old - start = omega (arith, length-drop (start + 12) old, le) in
+    let behind = body_octets version kind order (octets_body body) (12 + length front) in
+    let same : length behind ≡ length (placed_octets version (length old - start) body) = ap length (placed version kind order (12 + length front) body b are) ∙ ap (λ (p : ℕ). length (placed_octets version p body)) end in
+    omega (arith, message-length version kind order (front ++ behind), length-append front behind, same, end, placed-length version (length old - start) body)
+
+-- the message over what stands from its start on
+pub ended-behind : (version : Version) (kind : MessageKind) (order : Order) (start end : ℕ) (body old bodied : List ℕ) → start + 12 ≤ length old → end ≡ length old - start
+    → bodied ≡ old ++ body_octets version kind order (octets_body body) end
+    → (take start bodied ≡ take start old) × (drop (start + 12) bodied ≡ with_octets version kind order body (drop (start + 12) old))
+ended-behind version kind order start end body old bodied le is put =
+    let more = body_octets version kind order (octets_body body) end in
+    let front = drop (start + 12) old in
+    let place : end ≡ 12 + length front = omega (arith, is, length-drop (start + 12) old, le) in
+    (
+      ap (take start) put ∙ take-append-le start old more (omega (arith, le)),
+      ap (drop (start + 12)) put ∙ drop-append-le (start + 12) old more le ∙ ap (λ (p : ℕ). front ++ body_octets version kind order (octets_body body) p) place,
+    )

@@ -1,0 +1,8 @@
+-- Lemmas. Nobody has to read them to know what is promised.
+pub mod Shifted
+pub mod Choosing
+pub mod FitAt
+pub mod ReadAt
+pub mod CutAgain
+pub mod Ending
+pub mod Appended

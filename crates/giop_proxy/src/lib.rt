@@ -1,0 +1,18 @@
+//! What a program that stands between clients and servers needs of messages that pass through it: a Request and a Reply
+//! that are written with their body at the place that it came from, and a message of 1.1 that is cut where it was cut.
+//!
+//! It stands on `giop_core` for messages and on `giop_frames` for fragments. It promises that what is written is read
+//! again as the same message, with its body at the same place.
+#![tactic(auto)]
+
+mod cut;
+mod fields;
+mod finishing;
+mod placed;
+pub mod placing_laws;
+
+// a message whose body stands at a place
+pub use placed::{LONGEST, PADDING, PlacingError, write_reply, write_request};
+
+// a message of 1.1, cut at given places
+pub use cut::cut;
