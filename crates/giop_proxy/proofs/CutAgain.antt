@@ -225,3 +225,31 @@ cut_again again limits s message place (p ∷ ats) h n none early free anywhere 
     let n' = (place + p) - 12 in
     let done = in_frames again limits h.order h.kind whole (take n' whole) anywhere fit reads s n none early free kinds can (in_message place ats) (12 + n') (drop n' whole) (take-append-drop n' whole) in
     subst (λ (x : Header). Completes limits s (flat_map frame_octets (frames_at x (chunks_at 12 (in_message place (p ∷ ats)) whole))) (record { header = x; octets = whole })) same done
+
+-- each cut adds a header
+
+frame-length : (f : Frame) → length (frame_octets f) ≡ 12 + length f.octets
+frame-length f = omega (arith, length-append (header_octets f.header) f.octets, length-header f.header)
+
+fragments-length : (h : Header) (ats : List ℕ) (from : ℕ) (left : List ℕ) → length (flat_map frame_octets (fragments_of h [] (chunks_at from ats left))) ≡ length left + 12 * (1 + length ats)
+fragments-length h [] from left =
+    let f = fragment_of h [] false left in
+    omega (arith, frame-length f, length-append (frame_octets f) [])
+fragments-length h (p ∷ ats) from left =
+    let x = take (p - from) left in
+    let others = drop (p - from) left in
+    let f = fragment_of h [] true x in
+    let more = flat_map frame_octets (fragments_of h [] (chunks_at (from + (p - from)) ats others)) in
+    ap (λ (fs : List Frame). length (flat_map frame_octets fs)) (fragments-more h x (from + (p - from)) ats others)
+    ∙ omega (arith, frame-length f, length-append (frame_octets f) more, fragments-length h ats (from + (p - from)) others, length-append x others, ap length (take-append-drop (p - from) left))
+
+pub cuts_take : CutsTakeHeaders
+cuts_take message place [] h long = omega arith
+cuts_take message place (p ∷ ats) h long =
+    let whole = drop 12 message in
+    let n = (place + p) - 12 in
+    let front = take n whole in
+    let left = drop n whole in
+    let f = first_frame h front in
+    let more = flat_map frame_octets (fragments_of h [] (chunks_at (12 + n) (in_message place ats) left)) in
+    omega (arith, long, frame-length f, length-append (frame_octets f) more, fragments-length h (in_message place ats) (12 + n) left, length-map (λ (at : ℕ). place + at) ats, length-append front left, ap length (take-append-drop n whole), length-drop 12 message)

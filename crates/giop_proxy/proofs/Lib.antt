@@ -6,3 +6,5 @@ pub mod ReadAt
 pub mod CutAgain
 pub mod Ending
 pub mod Appended
+pub mod Places
+pub mod Shortest
