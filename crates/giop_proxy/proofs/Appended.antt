@@ -1,11 +1,12 @@
 -- A message is appended, or it is known why it is not.
 use Rattle.std.proofs.Common.{◌≡◌, ℕ, ◌+◌, ◌<◌, ◌≤◌, ◌^◌, Bool, true, false, List, [], ◌∷◌, ◌++◌, length, take, drop, Option, Some, None, Result, Ok, Err, refl, sym, ap, subst, ◌∙◌, arith, append_assoc, length-append}
 use Rattle.std.proofs.lemmas.List.{drop_at, take_at, take-append-drop}
+use Rattle.std.specs.Prelude.{OnErr, OnOk}
 use Rattle.cdr_core.specs.declared.order.Order.{Order}
 use Rattle.cdr_core.specs.Private.{Keeps}
 use Rattle.cdr_core.specs.Value.{Value, values}
 use Rattle.cdr_core.specs.Writing.{octets_of_all}
-use Rattle.cdr_core.proofs.Appending.{keeps_all, keeps_both}
+use Rattle.cdr_core.proofs.Appending.{keeps_all, kept}
 use Rattle.giop_core.specs.declared.error.WriteError.{WriteError}
 use Rattle.giop_core.specs.declared.error.WriteError.TheVariants.{TooLong, Memory}
 use Rattle.giop_core.specs.declared.header.MessageKind.{MessageKind}
@@ -13,9 +14,9 @@ use Rattle.giop_core.specs.declared.header.Version.{Version}
 use Rattle.giop_core.specs.Written.{behind_header, message_octets, octets_body}
 use Rattle.giop_proxy.specs.declared.placed.PlacingError.{PlacingError}
 use Rattle.giop_proxy.specs.declared.placed.PlacingError.TheVariants as refused
-use Rattle.giop_proxy.specs.Placing.{end_of, fields_at, size_of, Appends}
-use Rattle.giop_proxy.specs.PlacingPrivate.{refused_as, with_octets, AppendsAt, Begins, IsEnded}
-use Rattle.giop_proxy.proofs.Choosing.{fields_within, found, Chosen}
+use Rattle.giop_proxy.specs.Placing.{end_of, fields_at, refused_as, size_of, Appends, IsOver}
+use Rattle.giop_proxy.specs.PlacingPrivate.{with_octets, AppendsAt, Begins, BeginsAt, IsEnded}
+use Rattle.giop_proxy.proofs.Choosing.{fields_within, first_chosen, found, none_chosen, second_chosen, Follows}
 use Rattle.giop_proxy.proofs.Ending.{message-length}
 
 pub front_kept : (n : ℕ) (xs : List ℕ) → Keeps (take n xs) xs
@@ -99,3 +100,99 @@ module _ (version : Version) (kind : MessageKind) (order : Order) (limit place :
     ended r new h =
         by-message r new (subst (λ (xs : List ℕ). IsEnded limit (message_octets version kind order xs) r old new) told
         (subst (λ (xs : List ℕ). IsEnded limit (message_octets version kind order (with_octets version kind order body (drop (length old + 12) begun))) r xs new) (begun-front order (fields padded) old begun b) h))
+
+    -- from where it began, by the kind that the code names
+    pub ended-at : (start : ℕ) → start ≡ length old → (k : MessageKind) → k ≡ kind → (r : Result (Unit {0}) PlacingError) (new : List ℕ)
+        → IsEnded limit (message_octets version k order (with_octets version k order body (drop (start + 12) begun))) r (take start begun) new → Answers r old new
+    ended-at start same k is r new h =
+        ended r new (subst (λ (n : ℕ). IsEnded limit (message_octets version kind order (with_octets version kind order body (drop (n + 12) begun))) r (take n begun) new) same
+        (subst (λ (q : MessageKind). IsEnded limit (message_octets version q order (with_octets version q order body (drop (start + 12) begun))) r (take start begun) new) is h))
+
+-- the two ways to begin
+
+module _ (version : Version) (kind : MessageKind) (order : Order) (place : ℕ) (body : List ℕ) (fields : Bool → List Value) where
+  abbrev pub Begun : Result (Unit {0}) PlacingError → List ℕ → List ℕ → Type 0
+  Begun r old new = BeginsAt version kind order place body fields r old new
+
+  pub begun-first : (old new : List ℕ) → Follows version order place body fields false true → Begins {A = Bool} order (fields false) (Ok true) old new → Begun (Ok tt) old new
+  begun-first old new follows b = (false, first_chosen version order place body fields follows, b)
+
+  pub begun-second : (old new : List ℕ) → Follows version order place body fields false false → Follows version order place body fields true true → Begins {A = Bool} order (fields true) (Ok true) old new → Begun (Ok tt) old new
+  begun-second old new not follows b = (true, second_chosen version order place body fields not follows, b)
+
+  pub begun-nowhere : (old new : List ℕ) → Follows version order place body fields false false → Follows version order place body fields true false → Begins {A = Bool} order (fields true) (Ok true) old new → Begun (Err refused.Place) old new
+  begun-nowhere old new not never b = (none_chosen version order place body fields not never, begun-keeps order (fields true) old new b)
+
+  pub first-fails : length (octets_of_all order (values (fields false)) 12) + 12 ≤ length (octets_of_all order (values (fields true)) 12) → (e : WriteError) (old new : List ℕ)
+      → Begins {A = Bool} order (fields false) (Err e) old new → Begun (Err (refused_as e)) old new
+  first-fails longer e old new h = first-refused version kind order 4294967295 place body fields (omega arith) longer e old new h
+
+  pub second-fails : Follows version order place body fields false false → (e : WriteError) (old new : List ℕ) → Begins {A = Bool} order (fields true) (Err e) old new → Begun (Err (refused_as e)) old new
+  second-fails not e old new h = one-refused version kind order 4294967295 place body fields (omega arith) true only-second e old new h
+    where
+      by-form : (padded : Bool) (fs : List Value) → fields padded ≡ fs → Follows version order place body fields padded true → fields true ≡ fs
+      by-form true fs is follows = is
+      by-form false fs is follows = absurd (let both : false ≡ true = sym not ∙ follows in cc)
+
+      only-second : (fs : List Value) → fields_at version order place body fields ≡ Some fs → fields true ≡ fs
+      only-second fs e = let f = found version order place body fields fs e in by-form f.0 fs f.1 f.2
+
+-- a greater limit is passed where a less one is
+
+pub weaker : (version : Version) (kind : MessageKind) (order : Order) (limit : ℕ) (body : List ℕ) (chosen : Option (List Value)) (e : PlacingError) (old new : List ℕ) → limit < 2 ^ 32
+    → AppendsAt {A = Unit {0}} version kind order 4294967295 body chosen (Err e) old new → AppendsAt {A = Unit {0}} version kind order limit body chosen (Err e) old new
+weaker version kind order limit body chosen refused.TooLong old new lt h = (λ fs e. omega (arith, lt, h.0 fs e), h.1)
+weaker version kind order limit body chosen refused.Place old new lt h = h
+weaker version kind order limit body chosen refused.Memory old new lt h = h
+weaker version kind order limit body chosen refused.Status old new lt h = h
+weaker version kind order limit body chosen refused.Operation old new lt h = h
+
+-- what is cut back
+
+module _ (version : Version) (kind : MessageKind) (order : Order) (limit : ℕ) (body : List ℕ) (chosen : Option (List Value)) (start : ℕ) (old mid new : List ℕ) (same : start ≡ length old) where
+  abbrev At : Result (Unit {0}) PlacingError → List ℕ → Type 0
+  At r xs = AppendsAt version kind order limit body chosen r old xs
+
+  back : (k : Keeps old mid) → new ≡ take start mid → new ≡ old
+  back k e = e ∙ ap (λ (n : ℕ). take n mid) same ∙ kept old mid k
+
+  keeps-now : (k : Keeps old mid) → new ≡ take start mid → Keeps old new
+  keeps-now k e = keeps_all old new (back k e)
+
+  pub back-appends : (r : Result (Unit {0}) PlacingError) → At r mid → OnOk r (new ≡ mid) → OnErr r (new ≡ take start mid) → At r new
+  back-appends (Ok x) h ok err = subst (λ (xs : List ℕ). Appends version kind order limit body chosen old xs) (sym ok) h
+  back-appends (Err refused.TooLong) h ok err = (h.0, keeps-now h.1 err)
+  back-appends (Err refused.Place) h ok err = (h.0, keeps-now h.1 err)
+  back-appends (Err refused.Memory) h ok err = keeps-now h err
+  back-appends (Err refused.Status) h ok err = h
+  back-appends (Err refused.Operation) h ok err = h
+
+  pub back-same : (r : Result (Unit {0}) PlacingError) → At r mid → OnOk r (new ≡ mid) → OnErr r (new ≡ take start mid) → OnErr r (new ≡ old)
+  back-same (Ok x) h ok err = tt
+  back-same (Err refused.TooLong) h ok err = back h.1 err
+  back-same (Err refused.Place) h ok err = back h.1 err
+  back-same (Err refused.Memory) h ok err = back h err
+  back-same (Err refused.Status) h ok err = absurd h
+  back-same (Err refused.Operation) h ok err = absurd h
+
+-- what each outcome says
+
+module _ (version : Version) (kind : MessageKind) (order : Order) (limit : ℕ) (body : List ℕ) (chosen : Option (List Value)) (old new : List ℕ) where
+  abbrev Of : Result (Unit {0}) PlacingError → Type 0
+  Of r = AppendsAt version kind order limit body chosen r old new
+
+  pub at-ok : (r : Result (Unit {0}) PlacingError) → Of r → OnOk r (Appends version kind order limit body chosen old new)
+  at-ok (Ok x) h = h
+  at-ok (Err e) h = tt
+
+  pub at-long : (r : Result (Unit {0}) PlacingError) → Of r → r ≡ Err refused.TooLong → IsOver version kind order limit body chosen
+  at-long r h e = (subst Of e h).0
+
+  pub at-place : (r : Result (Unit {0}) PlacingError) → Of r → r ≡ Err refused.Place → chosen ≡ None
+  at-place r h e = (subst Of e h).0
+
+  pub at-operation : (r : Result (Unit {0}) PlacingError) → Of r → r ≡ Err refused.Operation → ⊥
+  at-operation r h e = subst Of e h
+
+  pub at-status : (r : Result (Unit {0}) PlacingError) → Of r → r ≡ Err refused.Status → ⊥
+  at-status r h e = subst Of e h

@@ -1,6 +1,9 @@
 -- The end of the fields, and the body and the header behind and before them.
-use Rattle.std.proofs.Common.{◌≡◌, ◌⊎◌, inl, inr, ℕ, ◌+◌, ◌-◌, ◌<◌, ◌≤◌, ◌^◌, Bool, true, false, List, [], ◌∷◌, ◌++◌, length, take, drop, map, replicate, Result, Ok, Err, refl, sym, ap, subst, ◌∙◌, arith, append_assoc, length-append}
-use Rattle.std.proofs.lemmas.List.{append-nil, drop-append-le, drop_at, length-drop, length-replicate, take-append-le, take_at}
+use Rattle.std.proofs.Common.{◌≡◌, ◌==◌, ◌⊎◌, inl, inr, ℕ, ◌+◌, ◌-◌, ◌<◌, ◌≤◌, ◌^◌, Bool, true, false, List, [], ◌∷◌, ◌++◌, length, take, drop, map, replicate, Result, Ok, Err, refl, sym, ap, subst, ◌∙◌, arith, append_assoc, length-append}
+use Rattle.std.proofs.lemmas.List.{append-nil, drop-append-le, drop_at, length-drop, length-replicate, take-append-drop, take-append-le, take_at}
+use Rattle.std.specs.Prelude.{if◌then◌else◌, OnErr, OnOk}
+use Rattle.std.specs.Result.{is_ok}
+use Rattle.std.specs.declared.alloc.AllocError.{AllocError}
 use Rattle.cdr_core.specs.declared.order.Order.{Order}
 use Rattle.cdr_core.specs.Numbers.{digits_of, padding, AreOctets}
 use Rattle.cdr_core.specs.Private.{Keeps}
@@ -19,8 +22,10 @@ use Rattle.giop_core.specs.declared.header.Version.TheVariants.{V10, V11, V12}
 use Rattle.giop_core.specs.Headers.{header_octets}
 use Rattle.giop_core.specs.Written.{aligned_octets, behind_gap, behind_header, body_octets, header_for, message_octets, octets_body, Wrote}
 use Rattle.giop_core.proofs.OctetsBody.{body_length, body_read}
+use Rattle.giop_frames.proofs.Deciding.{test_eq}
+use Rattle.giop_proxy.specs.declared.placed.PlacingError.TheVariants as refused
 use Rattle.giop_proxy.specs.Placing.{begins_at}
-use Rattle.giop_proxy.specs.PlacingPrivate.{with_octets, Begins, HasBody}
+use Rattle.giop_proxy.specs.PlacingPrivate.{begun_at, gap_at, with_octets, Begins, HasBody, IsEnded}
 
 -- a message without a body is its header and its fields
 
@@ -83,11 +88,6 @@ abbrev pub placed_octets : Version → ℕ → List ℕ → List ℕ
 placed_octets V12 end body = behind_gap (padding end 8) body
 placed_octets _ end body = body
 
--- where it begins; one of no octets begins where the fields end
-abbrev pub begun_at : Version → ℕ → List ℕ → ℕ
-begun_at version end [] = end
-begun_at version end (x ∷ xs) = begins_at version end
-
 pub placed : (version : Version) (kind : MessageKind) (order : Order) (end : ℕ) (body : List ℕ) → HasBody kind → AreOctets body → body_octets version kind order (octets_body body) end ≡ placed_octets version end body
 placed V10 kind order end body b are = body_read order body end are
 placed V11 kind order end body b are = body_read order body end are
@@ -130,8 +130,81 @@ pub ended-behind : (version : Version) (kind : MessageKind) (order : Order) (sta
 ended-behind version kind order start end body old bodied le is put =
     let more = body_octets version kind order (octets_body body) end in
     let front = drop (start + 12) old in
-    let place : end ≡ 12 + length front = omega (arith, is, length-drop (start + 12) old, le) in
-    (
+    let place : end ≡ 12 + length front = omega (arith, is, length-drop (start + 12) old, le) in (
       ap (take start) put ∙ take-append-le start old more (omega (arith, le)),
       ap (drop (start + 12)) put ∙ drop-append-le (start + 12) old more le ∙ ap (λ (p : ℕ). front ++ body_octets version kind order (octets_body body) p) place,
     )
+
+-- the same, once its padding stands
+
+gap-placed : (version : Version) (end x : ℕ) (xs : List ℕ) → gap_at version end ++ (x ∷ xs) ≡ placed_octets version end (x ∷ xs)
+gap-placed V10 end x xs = refl
+gap-placed V11 end x xs = refl
+gap-placed V12 end x xs = refl
+
+body-put : (version : Version) (kind : MessageKind) (order : Order) (end : ℕ) (body old gapped new : List ℕ) → HasBody kind → AreOctets body → (length body == 0) ≡ false → gapped ≡ old ++ gap_at version end → new ≡ gapped ++ body
+    → new ≡ old ++ body_octets version kind order (octets_body body) end
+body-put version kind order end [] old gapped new b are some gap put = absurd cc
+body-put version kind order end (x ∷ xs) old gapped new b are some gap put =
+    put ∙ ap (λ (ys : List ℕ). ys ++ (x ∷ xs)) gap ∙ append_assoc old (gap_at version end) (x ∷ xs) ∙ ap (λ (ys : List ℕ). old ++ ys) (gap-placed version end x xs ∙ sym (placed version kind order end (x ∷ xs) b are))
+
+pub put-ok : (version : Version) (kind : MessageKind) (order : Order) (end : ℕ) (body old gapped new : List ℕ) → HasBody kind → AreOctets body → (length body == 0) ≡ false → gapped ≡ old ++ gap_at version end
+    → (r : Result (Unit {0}) AllocError) → new ≡ (if is_ok r then gapped ++ body else gapped) → OnOk r (new ≡ old ++ body_octets version kind order (octets_body body) end)
+put-ok version kind order end body old gapped new b are some gap (Ok x) put = body-put version kind order end body old gapped new b are some gap put
+put-ok version kind order end body old gapped new b are some gap (Err x) put = tt
+
+pub put-err : (version : Version) (end : ℕ) (body old gapped new : List ℕ) → gapped ≡ old ++ gap_at version end → (r : Result (Unit {0}) AllocError) → new ≡ (if is_ok r then gapped ++ body else gapped) → OnErr r (Keeps old new)
+put-err version end body old gapped new gap (Ok x) put = tt
+put-err version end body old gapped new gap (Err x) put = record { more = gap_at version end; parts = put ∙ gap }
+
+-- a body of no octets
+pub none-put : (version : Version) (kind : MessageKind) (order : Order) (end : ℕ) (body old : List ℕ) → HasBody kind → AreOctets body → (length body == 0) ≡ true → old ≡ old ++ body_octets version kind order (octets_body body) end
+none-put version kind order end [] old b are none = sym (ap (λ (ys : List ℕ). old ++ ys) (placed version kind order end [] b are ∙ placed-none version end) ∙ append-nil old)
+none-put version kind order end (x ∷ xs) old b are none = elim (test_eq (length (x ∷ xs)) 0) [ inl t ↦ absurd (omega (arith, t.1)) | inr t ↦ absurd (let n = t.0 in cc) ]
+
+-- where it begins
+
+pub begun-none : (version : Version) (end : ℕ) (body : List ℕ) → (length body == 0) ≡ true → end ≡ begun_at version end body
+begun-none version end [] none = refl
+begun-none version end (x ∷ xs) none = elim (test_eq (length (x ∷ xs)) 0) [ inl t ↦ absurd (omega (arith, t.1)) | inr t ↦ absurd (let n = t.0 in cc) ]
+
+pub begun-some : (version : Version) (end : ℕ) (body : List ℕ) → (length body == 0) ≡ false → begins_at version end ≡ begun_at version end body
+begun-some version end [] some = absurd cc
+begun-some version end (x ∷ xs) some = refl
+
+pub begun-later : (version : Version) (end : ℕ) (body : List ℕ) → end ≤ begun_at version end body
+begun-later version end [] = omega arith
+begun-later V10 end (x ∷ xs) = omega arith
+begun-later V11 end (x ∷ xs) = omega arith
+begun-later V12 end (x ∷ xs) = omega arith
+
+-- the whole message, once its header stands
+
+module _ (version : Version) (kind : MessageKind) (order : Order) (limit start : ℕ) (body old : List ℕ) (b : HasBody kind) (are : AreOctets body) (le : start + 12 ≤ length old) where
+  abbrev end : ℕ
+  end = length old - start
+
+  pub ended-long : limit < begun_at version end body + length body → IsEnded {A = Unit {0}} limit (message_octets version kind order (with_octets version kind order body (drop (start + 12) old))) (Err refused.TooLong) (take start old) old
+  ended-long over = (omega (arith, over, ended-length version kind order start body old b are le), record { more = drop start old; parts = sym (take-append-drop start old) })
+
+  pub ended-kept : (new : List ℕ) → Keeps old new → Keeps (take start old) new
+  ended-kept new k = record { more = drop start old ++ k.more; parts = k.parts ∙ ap (λ (xs : List ℕ). xs ++ k.more) (sym (take-append-drop start old)) ∙ append_assoc (take start old) (drop start old) k.more }
+
+  module _ (e : ℕ) (is : e ≡ end) (bodied new : List ℕ) (put : bodied ≡ old ++ body_octets version kind order (octets_body body) e) where
+    pub bodied-room : start + 12 ≤ length bodied
+    bodied-room = omega (arith, le, ap length put, length-append old (body_octets version kind order (octets_body body) e))
+
+    pub bodied-size : length bodied ≡ start + (begun_at version end body + length body)
+    bodied-size =
+        let more = body_octets version kind order (octets_body body) e in
+        let same : length more ≡ length (placed_octets version end body) = ap length (placed version kind order e body b are) ∙ ap (λ (p : ℕ). length (placed_octets version p body)) is in
+        omega (arith, le, ap length put, length-append old more, same, placed-length version end body)
+
+    pub ended-ok : begun_at version end body + length body ≤ limit → new ≡ take start bodied ++ message_octets version kind order (drop (start + 12) bodied)
+        → IsEnded {A = Unit {0}} limit (message_octets version kind order (with_octets version kind order body (drop (start + 12) old))) (Ok tt) (take start old) new
+    ended-ok within h =
+        let parts = ended-behind version kind order start e body old bodied le is put in
+        (
+          omega (arith, within, ended-length version kind order start body old b are le),
+          h ∙ ap (λ (xs : List ℕ). xs ++ message_octets version kind order (drop (start + 12) bodied)) parts.0 ∙ ap (λ (xs : List ℕ). take start old ++ message_octets version kind order xs) parts.1,
+        )

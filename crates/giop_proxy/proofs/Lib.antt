@@ -8,3 +8,4 @@ pub mod Ending
 pub mod Appended
 pub mod Places
 pub mod Shortest
+pub mod Requesting

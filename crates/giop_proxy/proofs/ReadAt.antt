@@ -87,8 +87,7 @@ requests_read read spelled requests version order id w key operation contexts pl
     let items = contexts_with f.0 contexts in
     let mine = request_for version id w key operation contexts place body f.0 in
     let fit : length (behind_header version kind.Request order mine (octets_body body)) < 2 ^ 32 = subst (λ (x : List Value). length (behind_header version kind.Request order x (octets_body body)) < 2 ^ 32) (sym f.1) (omega (arith, small)) in
-    let one = request_as read spelled requests order id lt w key operation (principal_for place body) items clean (tags_with f.0 contexts tags) body version fit in
-    (
+    let one = request_as read spelled requests order id lt w key operation (principal_for place body) items clean (tags_with f.0 contexts tags) body version fit in (
       f.0,
       subst (λ (x : List Value). IsReadAt version kind.Request order place body (behind_header version kind.Request order x (octets_body body)) (content.request id (wish_in version w) (content.by_key key) operation items)) f.1 (record {
         at = begins_at version (end_of order mine);
@@ -105,8 +104,7 @@ replies_read replies version order id status contexts place body fields lt below
     let items = contexts_with f.0 contexts in
     let mine = reply_for version id status contexts f.0 in
     let fit : length (behind_header version kind.Reply order mine (octets_body body)) < 2 ^ 32 = subst (λ (x : List Value). length (behind_header version kind.Reply order x (octets_body body)) < 2 ^ 32) (sym f.1) (omega (arith, small)) in
-    let one = replies version order id status items (octets_body body) lt below (tags_with f.0 contexts tags) fit in
-    (
+    let one = replies version order id status items (octets_body body) lt below (tags_with f.0 contexts tags) fit in (
       f.0,
       subst (λ (x : List Value). IsReadAt version kind.Reply order place body (behind_header version kind.Reply order x (octets_body body)) (content.reply id status items)) f.1 (record {
         at = begins_at version (end_of order mine);

@@ -102,11 +102,11 @@ module _ (order : Order) (cs : List (ℕ × List ℕ)) (id a b c d : ℕ) where
       let new = octets_of_all order more p in
       let last : new ≡ old ++ octets_of order (tagged_value one) (p + length old) = ap (λ (vs : Values). octets_of_all order vs p) (values_push tagged_value cs one) ∙ octets-last order items (tagged_value one) p in
       let here : length (octets_of order (list_value cs) o) ≡ (padding o 4 + 4) + length old =
-          length-append front (octets_of_all order items (o + length front)) ∙ ap (λ (q : ℕ). q + length (octets_of_all order items (o + q))) m in
+      length-append front (octets_of_all order items (o + length front)) ∙ ap (λ (q : ℕ). q + length (octets_of_all order items (o + q))) m in
       let there : length (octets_of order (list_value (cs ++ one ∷ [])) o) ≡ (padding o 4 + 4) + length new =
-          length-append front' (octets_of_all order more (o + length front')) ∙ ap (λ (q : ℕ). q + length (octets_of_all order more (o + q))) m' in
+      length-append front' (octets_of_all order more (o + length front')) ∙ ap (λ (q : ℕ). q + length (octets_of_all order more (o + q))) m' in
       let grown : length new ≡ length old + (padding (p + length old) 4 + 12) =
-          ap length last ∙ length-append old (octets_of order (tagged_value one) (p + length old)) ∙ ap (λ (q : ℕ). length old + q) (one_length (p + length old)) in
+      ap length last ∙ length-append old (octets_of order (tagged_value one) (p + length old)) ∙ ap (λ (q : ℕ). length old + q) (one_length (p + length old)) in
       let same : padding (p + length old) 4 ≡ padding (o + length (octets_of order (list_value cs) o)) 4 = ap (λ (q : ℕ). padding q 4) (omega (arith, here)) in
       omega (arith, here, there, grown, same)
 

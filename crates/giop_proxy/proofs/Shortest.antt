@@ -18,9 +18,8 @@ use Rattle.giop_core.proofs.OctetsBody.{body_length}
 use Rattle.giop_frames.proofs.Deciding.{test_eq}
 use Rattle.giop_proxy.specs.Placing.{begins_at, contexts_with, end_of, fields_at, may_begin, may_follow, principal_for, reply_for, request_fields, request_for, size_of, wish_in}
 use Rattle.giop_proxy.specs.PlacingLaws.{PlacedRepliesAreShort, PlacedRequestsAreShort}
-use Rattle.giop_proxy.specs.PlacingPrivate.{HasBody}
+use Rattle.giop_proxy.specs.PlacingPrivate.{begun_at, HasBody}
 use Rattle.giop_proxy.proofs.Choosing.{first_chosen, found, reply_longer, request_longer, Chosen, Longer}
-use Rattle.giop_proxy.proofs.Ending.{begun_at}
 use Rattle.giop_proxy.proofs.Places.{behind_length, behind_whole, principal_ends, principal_size}
 
 -- how long a message is
@@ -123,7 +122,7 @@ module _ (version : Version) (order : Order) (place : ℕ) (plain : (end : ℕ) 
       let here : may_follow version order place body mine ≡ true = ap (λ (m : ℕ). may_begin place body (begins_at version m)) (sym same) ∙ follows in
       let short = form-short version kind.Request order place body (own body) (inl refl) (longer (principal_for place body)) fs e padded here in
       let as-long : sized body mine ≡ sized body other =
-          size-is version kind.Request order body mine (inl refl) ∙ ap (λ (m : ℕ). begun_at version m body + length body) (sym same) ∙ sym (size-is version kind.Request order body other (inl refl)) in
+      size-is version kind.Request order body mine (inl refl) ∙ ap (λ (m : ℕ). begun_at version m body + length body) (sym same) ∙ sym (size-is version kind.Request order body other (inl refl)) in
       omega (arith, short, as-long)
 
 pub requests_short : PlacedRequestsAreShort

@@ -7,6 +7,8 @@ use Rattle.cdr_core.specs.Parts.{ulong_value}
 use Rattle.cdr_core.specs.Value as value
 use Rattle.cdr_core.specs.Value.{Value, values}
 use Rattle.cdr_core.specs.Writing.{octets_of_all}
+use Rattle.giop_core.specs.declared.error.WriteError.{WriteError}
+use Rattle.giop_core.specs.declared.error.WriteError.TheVariants.{TooLong, Memory}
 use Rattle.giop_core.specs.declared.header.MessageKind.{MessageKind}
 use Rattle.giop_core.specs.declared.header.Version.{Version}
 use Rattle.giop_core.specs.declared.header.Version.TheVariants.{V10, V11, V12}
@@ -16,6 +18,8 @@ use Rattle.giop_core.specs.Content as content
 use Rattle.giop_core.specs.Items.{list_value}
 use Rattle.giop_core.specs.Written as written
 use Rattle.giop_core.specs.Written.{behind_header, message_octets, octets_body, response_expected, zeros}
+use Rattle.giop_proxy.specs.declared.placed.PlacingError.{PlacingError}
+use Rattle.giop_proxy.specs.declared.placed.PlacingError.TheVariants as refused
 
 -- what moves a body of 1.0 and 1.1, which follows the fields
 
@@ -85,6 +89,11 @@ fields_at version order place body fields =
     (if may_follow version order place body (fields true) then Some (fields true) else None)
 
 -- what writers do
+
+-- what the refusal of a writer below is here
+abbrev pub refused_as : WriteError → PlacingError
+refused_as TooLong = refused.TooLong
+refused_as Memory = refused.Memory
 
 -- how many octets a message has
 abbrev pub size_of : Version → MessageKind → Order → List ℕ → List Value → ℕ

@@ -1,7 +1,8 @@
 -- The words of private functions: what their contracts say on the way to those of the public ones. Nobody who takes the
 -- public contracts has to read this file.
-use Rattle.std.specs.Prelude.{◌≡◌, ◌⊎◌, ℕ, ◌+◌, ◌<◌, ◌≤◌, ◌^◌, Bool, true, false, List, [], ◌∷◌, ◌++◌, length, map, Option, None, Result, Ok, Err}
+use Rattle.std.specs.Prelude.{◌≡◌, ◌⊎◌, ℕ, ◌+◌, ◌-◌, ◌<◌, ◌≤◌, ◌^◌, Bool, true, false, List, [], ◌∷◌, ◌++◌, length, map, replicate, take, Option, Some, None, Result, Ok, Err}
 use Rattle.cdr_core.specs.declared.order.Order.{Order}
+use Rattle.cdr_core.specs.Numbers.{digits_of, padding}
 use Rattle.cdr_core.specs.Private.{Keeps}
 use Rattle.cdr_core.specs.Spelling.{IsClean}
 use Rattle.cdr_core.specs.Value.{Value, values}
@@ -11,6 +12,7 @@ use Rattle.giop_core.specs.declared.error.WriteError.TheVariants.{TooLong, Memor
 use Rattle.giop_core.specs.declared.header.MessageKind.{MessageKind}
 use Rattle.giop_core.specs.declared.header.MessageKind.TheVariants.{Request, Reply}
 use Rattle.giop_core.specs.declared.header.Version.{Version}
+use Rattle.giop_core.specs.declared.header.Version.TheVariants.{V12}
 use Rattle.giop_core.specs.Items.{item_at}
 use Rattle.giop_core.specs.Statuses.{reply_statuses}
 use Rattle.giop_core.specs.Written.{octets_body, reply_fields, with_body}
@@ -18,7 +20,7 @@ use Rattle.giop_proxy.specs.declared.fields.Fields.{Fields}
 use Rattle.giop_proxy.specs.declared.fields.Fields.TheVariants as fields
 use Rattle.giop_proxy.specs.declared.placed.PlacingError.{PlacingError}
 use Rattle.giop_proxy.specs.declared.placed.PlacingError.TheVariants as refused
-use Rattle.giop_proxy.specs.Placing.{Appends, IsOver, contexts_with, principal_for, request_fields, wish_in}
+use Rattle.giop_proxy.specs.Placing.{Appends, IsOver, begins_at, contexts_with, fields_at, principal_for, request_fields, wish_in}
 
 -- the kind of a message of these fields
 abbrev pub kind_of : Fields → MessageKind
@@ -50,9 +52,24 @@ Begins order fs (Ok x) old new = (head : List ℕ) × (length head ≡ 12) × (n
 Begins order fs (Err TooLong) old new = (2 ^ 32 ≤ length (octets_of_all order (values fs) 12)) × Keeps old new
 Begins order fs (Err Memory) old new = Keeps old new
 
+-- the fields of a Request, whose empty principal ends them in 1.0 and 1.1, with one of so many octets in its place
+abbrev pub ends_with : Version → Order → ℕ → List ℕ → List ℕ
+ends_with V12 order n octets = octets
+ends_with _ order n octets = take (length octets - 4) octets ++ (digits_of order 4 n ++ replicate n 0)
+
 -- a kind of message that has a body here
 abbrev pub HasBody : MessageKind → Type 0
 HasBody kind = (kind ≡ Request) ⊎ (kind ≡ Reply)
+
+-- the padding before a body that has octets, behind fields that end at a place
+abbrev pub gap_at : Version → ℕ → List ℕ
+gap_at V12 end = replicate (padding end 8) 0
+gap_at _ end = []
+
+-- where a body begins behind fields that end at a place; one of no octets begins there
+abbrev pub begun_at : Version → ℕ → List ℕ → ℕ
+begun_at version end [] = end
+begun_at version end (x ∷ xs) = begins_at version end
 
 -- what stands after the header: fields and a body of octets
 abbrev pub with_octets : Version → MessageKind → Order → List ℕ → List ℕ → List ℕ
@@ -65,11 +82,6 @@ IsEnded limit message (Err refused.TooLong) old new = (limit < length message) �
 IsEnded limit message (Err refused.Memory) old new = Keeps old new
 IsEnded limit message (Err e) old new = ⊥
 
--- what the refusal of a writer below is here
-abbrev pub refused_as : WriteError → PlacingError
-refused_as TooLong = refused.TooLong
-refused_as Memory = refused.Memory
-
 -- A message of these fields is appended; or it is over the limit; or there are none; or memory ran out.
 abbrev pub AppendsAt : {A : Type 0} → Version → MessageKind → Order → ℕ → List ℕ → Option (List Value) → Result A PlacingError → List ℕ → List ℕ → Type 0
 AppendsAt version kind order limit body fields (Ok x) old new = Appends version kind order limit body fields old new
@@ -77,3 +89,9 @@ AppendsAt version kind order limit body fields (Err refused.TooLong) old new = I
 AppendsAt version kind order limit body fields (Err refused.Place) old new = (fields ≡ None) × Keeps old new
 AppendsAt version kind order limit body fields (Err refused.Memory) old new = Keeps old new
 AppendsAt version kind order limit body fields (Err e) old new = ⊥
+
+-- A message is begun, as far as those of its fields behind which its body may stand; or it is too long for every message size; or
+-- its body may stand behind none; or memory ran out.
+abbrev pub BeginsAt : {A : Type 0} → Version → MessageKind → Order → ℕ → List ℕ → (Bool → List Value) → Result A PlacingError → List ℕ → List ℕ → Type 0
+BeginsAt version kind order place body fields (Ok x) old new = (padded : Bool) × (fields_at version order place body fields ≡ Some (fields padded)) × Begins {A = Unit {0}} order (fields padded) (Ok tt) old new
+BeginsAt version kind order place body fields (Err e) old new = AppendsAt {A = Unit {0}} version kind order 4294967295 body (fields_at version order place body fields) (Err e) old new

@@ -11,7 +11,7 @@ ghost use Rattle.giop_core.specs.Written as written;
 ghost use Rattle.giop_core.specs.Written.{behind_header, Wrote};
 ghost use Rattle.giop_core.specs.declared.header.MessageKind.TheVariants as kind;
 ghost use Rattle.giop_proxy.specs.Placing.{padding_context, principal_for, request_fields, wish_in};
-ghost use Rattle.giop_proxy.specs.PlacingPrivate.{contexts_of, fields_for, fields_with, kind_of, Begins, CanBeWritten, HasBody};
+ghost use Rattle.giop_proxy.specs.PlacingPrivate.{contexts_of, ends_with, fields_for, fields_with, kind_of, Begins, CanBeWritten, HasBody};
 
 use cdr_core::Order;
 use giop_core::{MessageKind, ReplyWish, Target, Version, WriteError, write_reply, write_request};
@@ -73,7 +73,7 @@ fn with_padding<'a>(
 
 /// How many octets the principal has before a body at a place: as many as that is past a multiple of 4, if there is a body.
 fn principal_size(place: u64, body: &[u8]) -> usize
-    ensures size { result ≡ length (principal_for place body.now) }
+    ensures size { replicate result 0 ≡ principal_for place body.now }
     ensures few { result < 4 }
 {
     if body.is_empty() {
@@ -95,6 +95,24 @@ fn put_principal(order: Order, size: usize, out: &mut Vec<u8>) -> Result<(), All
     order.put_ulong(size as u32, &mut digits);
     out[end - 4..end].copy_from_slice(&digits);
     Ok(())
+}
+
+/// Ends the fields of a Request whose principal is empty with one of so many octets: in 1.0 and 1.1 alone.
+fn end_request(
+    version: Version,
+    order: Order,
+    principal: usize,
+    out: &mut Vec<u8>,
+) -> Result<(), AllocError>
+    requires some { 4 ≤ length out.old.items }
+    requires few { principal < 4 }
+    ensures ok { OnOk result (out.new.items ≡ ends_with version order principal out.old.items) }
+    ensures err { OnErr result (out.new.items ≡ out.old.items) }
+{
+    match version {
+        Version::V10 | Version::V11 => put_principal(order, principal, out),
+        Version::V12 => Ok(()),
+    }
 }
 
 /// Appends a Request with these service contexts and an empty principal, and with no body.
@@ -136,10 +154,7 @@ fn put_request(
     ensures { Begins order (request_fields version fields.now.request_id (wish_in version fields.now.wish) fields.now.object_key.now fields.now.operation.now (map item_at contexts.now) (replicate principal 0)) result out.old.items out.new.items }
 {
     put_bare_request(version, order, fields, contexts, out)?;
-    match version {
-        Version::V10 | Version::V11 => put_principal(order, principal, out)?,
-        Version::V12 => (),
-    }
+    end_request(version, order, principal, out)?;
     Ok(())
 }
 

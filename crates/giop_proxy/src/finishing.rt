@@ -4,7 +4,7 @@ ghost use Rattle.std.specs.Prelude.{◌≡◌, ◌≤◌, ◌<◌, ◌+◌, ◌-
 ghost use Rattle.cdr_core.specs.Private.{Keeps};
 ghost use Rattle.giop_core.specs.Written.{body_octets, message_octets, octets_body};
 ghost use Rattle.giop_proxy.specs.Placing.{begins_at, may_begin};
-ghost use Rattle.giop_proxy.specs.PlacingPrivate.{with_octets, HasBody, IsEnded};
+ghost use Rattle.giop_proxy.specs.PlacingPrivate.{begun_at, gap_at, with_octets, HasBody, IsEnded};
 
 use crate::placed::PlacingError;
 use cdr_core::{Order, Writer};
@@ -29,6 +29,29 @@ pub(crate) fn may_begin(place: u64, body: &[u8], at: u64) -> bool
     body.is_empty() || at % 8 == place % 8
 }
 
+/// Where a body begins behind fields that end at a place; one of no octets begins there.
+fn begun_at(version: Version, body: &[u8], end: u64) -> u64
+    requires { end < 2 ^ 63 }
+    ensures { result ≡ begun_at version end body.now }
+{
+    if body.is_empty() {
+        return end;
+    }
+    begins_at(version, end)
+}
+
+/// Appends the padding before a body that has octets, behind fields that end at a place: in 1.2 alone.
+fn put_gap(version: Version, order: Order, end: u64, out: &mut Vec<u8>) -> Result<(), AllocError>
+    requires { end < 2 ^ 32 }
+    ensures ok { OnOk result (out.new.items ≡ out.old.items ++ gap_at version end) }
+    ensures err { OnErr result (out.new.items ≡ out.old.items) }
+{
+    match version {
+        Version::V10 | Version::V11 => Ok(()),
+        Version::V12 => Writer::new(order, end, out).align(8, out),
+    }
+}
+
 /// Appends a body behind fields that end at a place. In 1.2 padding stands before it, if it has any octets.
 fn put_body(
     version: Version,
@@ -47,10 +70,7 @@ fn put_body(
     if body.is_empty() {
         return Ok(());
     }
-    match version {
-        Version::V10 | Version::V11 => (),
-        Version::V12 => Writer::new(order, end, out).align(8, out)?,
-    }
+    put_gap(version, order, end, out)?;
     out.extend_from_slice(body)
 }
 
@@ -86,13 +106,10 @@ pub(crate) fn finish(
     requires begun { start + 12 ≤ length out.old.items }
     ensures { IsEnded limit (message_octets version kind order (with_octets version kind order body.now (drop (start + 12) out.old.items))) result (take start out.old.items) out.new.items }
 {
+    cdr_core::laws::are_octets(body);
     let end = (out.len() - start) as u64;
-    let begins = if body.is_empty() {
-        end
-    } else {
-        begins_at(version, end)
-    };
-    if begins + body.len() as u64 > u64::from(limit) {
+    let size = begun_at(version, body, end) + body.len() as u64;
+    if size > u64::from(limit) {
         return Err(PlacingError::TooLong);
     }
     put_body(version, kind, order, end, body, out)?;

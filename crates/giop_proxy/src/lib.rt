@@ -5,14 +5,15 @@
 //! again as the same message, with its body at the same place.
 #![tactic(auto)]
 
-mod cut;
+mod cutting;
 mod fields;
 mod finishing;
 mod placed;
 pub mod placing_laws;
 
 // a message whose body stands at a place
-pub use placed::{LONGEST, PADDING, PlacingError, write_reply, write_request};
+pub use fields::PADDING;
+pub use placed::{LONGEST, PlacingError, write_reply, write_request};
 
 // a message of 1.1, cut at given places
-pub use cut::cut;
+pub use cutting::cut;

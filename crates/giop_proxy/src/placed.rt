@@ -6,8 +6,8 @@ ghost use Rattle.cdr_core.specs.Spelling.{IsClean};
 ghost use Rattle.giop_core.specs.Items.{item_at};
 ghost use Rattle.giop_core.specs.Statuses.{reply_statuses};
 ghost use Rattle.giop_core.specs.declared.header.MessageKind.TheVariants as kind;
-ghost use Rattle.giop_proxy.specs.Placing.{fields_at, may_follow, reply_for, request_for, Appends, IsOver};
-ghost use Rattle.giop_proxy.specs.PlacingPrivate.{fields_for, kind_of, refused_as, AppendsAt, Begins, CanBeWritten};
+ghost use Rattle.giop_proxy.specs.Placing.{fields_at, may_follow, refused_as, reply_for, request_for, Appends, IsOver};
+ghost use Rattle.giop_proxy.specs.PlacingPrivate.{fields_for, kind_of, AppendsAt, Begins, BeginsAt, CanBeWritten};
 ghost use Rattle.giop_proxy.specs.declared.placed.PlacingError.TheVariants as refused;
 
 pub use crate::fields::PADDING;
@@ -84,6 +84,30 @@ fn begin(
     Ok(may_begin(place, body, begins_at(version, end)))
 }
 
+/// Appends a message as far as those of its fields behind which its body may stand. Where that fails `out` may keep a part of it
+/// at its end.
+fn begin_placed(
+    version: Version,
+    order: Order,
+    fields: &Fields<'_>,
+    place: u64,
+    body: &[u8],
+    out: &mut Vec<u8>,
+) -> Result<(), PlacingError>
+    requires { CanBeWritten version fields.now }
+    ensures { BeginsAt version (kind_of fields.now) order place body.now (fields_for version fields.now place body.now) result out.old.items out.new.items }
+{
+    let start = out.len();
+    if begin(version, order, fields, false, place, body, out)? {
+        return Ok(());
+    }
+    out.truncate(start);
+    if begin(version, order, fields, true, place, body, out)? {
+        return Ok(());
+    }
+    Err(PlacingError::Place)
+}
+
 /// Appends a message. Where that fails `out` may keep a part of it at its end.
 fn append(
     version: Version,
@@ -98,13 +122,24 @@ fn append(
     ensures { AppendsAt version (kind_of fields.now) order limit body.now (fields_at version order place body.now (fields_for version fields.now place body.now)) result out.old.items out.new.items }
 {
     let start = out.len();
-    if !begin(version, order, fields, false, place, body, out)? {
-        out.truncate(start);
-        if !begin(version, order, fields, true, place, body, out)? {
-            return Err(PlacingError::Place);
-        }
-    }
+    begin_placed(version, order, fields, place, body, out)?;
     finish(version, fields.kind(), order, start, body, limit, out)
+}
+
+/// What came of appending octets from `start` on: where that failed they are cut back.
+fn cut_back(
+    appended: Result<(), PlacingError>,
+    start: usize,
+    out: &mut Vec<u8>,
+) -> Result<(), PlacingError>
+    ensures same { result ≡ appended }
+    ensures ok { OnOk result (out.new.items ≡ out.old.items) }
+    ensures err { OnErr result (out.new.items ≡ take start out.old.items) }
+{
+    if appended.is_err() {
+        out.truncate(start);
+    }
+    appended
 }
 
 /// Appends a message. Where that fails `out` is as it was.
@@ -122,18 +157,15 @@ fn write(
     ensures err { OnErr result (out.new.items ≡ out.old.items) }
 {
     let start = out.len();
-    let result = append(version, order, fields, place, body, limit, out);
-    if result.is_err() {
-        out.truncate(start);
-    }
-    result
+    let appended = append(version, order, fields, place, body, limit, out);
+    cut_back(appended, start, out)
 }
 
 /// Appends a Request for an object key (GIOP 9.4.2), whose body is these octets, as they stand, at a place that is `place`
 /// modulo 8.
 ///
 /// In 1.2 a body that has octets stands at a multiple of 8, and no other place can be had. In 1.0 and 1.1 it follows the fields:
-/// where they don't end at its place, one more service context stands behind those given, of the id [`PADDING`] and with four
+/// where they don't end at its place, one more service context stands behind those given, of the id `PADDING` and with four
 /// octets, and a principal of up to three. The body is in the order of the message, which has at most `limit` octets. A reply
 /// without its body, which 1.0 and 1.1 can't ask for, is asked for with it. On an error `out` is as it was.
 pub fn write_request(
@@ -181,7 +213,7 @@ pub fn write_request(
 ///
 /// In 1.2 a body that has octets stands at a multiple of 8, and no other place can be had. In 1.0 and 1.1 it follows the fields,
 /// at a multiple of 4: where they don't end at its place, one more service context stands behind those given, of the id
-/// [`PADDING`] and with four octets. The body is in the order of the message, which has at most `limit` octets. On an error `out`
+/// `PADDING` and with four octets. The body is in the order of the message, which has at most `limit` octets. On an error `out`
 /// is as it was.
 pub fn write_reply(
     version: Version,

@@ -1,6 +1,6 @@
 //! A message of 1.1, cut at given places (GIOP 9.4.9).
 
-ghost use Rattle.std.specs.Prelude.{◌≡◌, ◌+◌, ◌<◌, ◌≤◌, ◌++◌, ◌^◌, [], ◌∷◌, false, length, take, Ok, IsTrue, MatchOption, OnErr, OnOk};
+ghost use Rattle.std.specs.Prelude.{◌≡◌, ◌+◌, ◌<◌, ◌≤◌, ◌++◌, ◌^◌, [], ◌∷◌, false, length, take, drop, Ok, IsTrue, MatchOption, OnErr, OnOk};
 ghost use Rattle.std.specs.List.{flat_map};
 ghost use Rattle.giop_core.specs.declared.header.Header.{Header as GivenHeader};
 ghost use Rattle.giop_core.specs.declared.header.MessageKind.TheVariants.{Fragment};
@@ -59,26 +59,35 @@ fn put_fragment(
     put_frame(&fragment, octets, out)
 }
 
-/// Appends Fragments of octets of a message, the first of which stands at `from`, cut at these places of its body, which
+/// So many octets, and those behind them; all, where there are fewer.
+fn split(octets: &[u8], size: u64) -> (&[u8], &[u8])
+    ensures front { result.0.now ≡ take size octets.now }
+    ensures back { result.1.now ≡ drop size octets.now }
+{
+    octets.split_at((size as usize).min(octets.len()))
+}
+
+/// Appends Fragments of octets of a message, the first of which stands at `start`, cut at these places of its body, which
 /// begins at `place`.
 fn put_fragments(
     header: &Header,
-    from: u64,
+    start: u64,
     place: u32,
     cuts: &[u32],
     octets: &[u8],
     out: &mut Vec<u8>,
 ) -> Result<(), AllocError>
     requires cuts { IsTrue (can_be_cut header.now.version Fragment) }
+    requires near { start < 2 ^ 34 }
     requires small { length octets.now < 2 ^ 32 }
-    ensures ok { OnOk result (out.new.items ≡ out.old.items ++ flat_map frame_octets (fragments_of header.now [] (chunks_at from (in_message place cuts.now) octets.now))) }
+    ensures ok { OnOk result (out.new.items ≡ out.old.items ++ flat_map frame_octets (fragments_of header.now [] (chunks_at start (in_message place cuts.now) octets.now))) }
     ensures err { OnErr result (IsAppended out.old.items out.new.items) }
 {
-    let mut from = from;
+    let mut from = start;
     let mut left = octets;
     for at in cuts {
         let size = (u64::from(place) + u64::from(*at)).saturating_sub(from);
-        let (front, others) = left.split_at(left.len().min(size as usize));
+        let (front, others) = split(left, size);
         put_fragment(header, true, front, out)?;
         from += size;
         left = others;
@@ -105,7 +114,7 @@ fn put_cut(
     let (_, octets) = message.split_at(Header::LEN);
     let from = Header::LEN as u64;
     let size = (u64::from(place) + u64::from(first)).saturating_sub(from);
-    let (front, others) = octets.split_at(octets.len().min(size as usize));
+    let (front, others) = split(octets, size);
     let head = Header {
         more: true,
         size: front.len() as u32,
