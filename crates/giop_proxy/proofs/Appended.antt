@@ -1,5 +1,5 @@
 -- A message is appended, or it is known why it is not.
-use Rattle.std.proofs.Common.{◌≡◌, ℕ, ◌+◌, ◌<◌, ◌≤◌, ◌^◌, Bool, true, false, List, [], ◌∷◌, ◌++◌, length, take, drop, Option, Some, None, Result, Ok, Err, refl, sym, ap, subst, ◌∙◌, arith, append_assoc, length-append}
+use Rattle.std.proofs.Common.{◌≡◌, ℕ, ◌+◌, ◌<◌, ◌≤◌, ◌^◌, Bool, true, false, List, [], ◌∷◌, ◌++◌, length, take, drop, map, Option, Some, None, Result, Ok, Err, refl, sym, ap, subst, ◌∙◌, arith, append_assoc, length-append}
 use Rattle.std.proofs.lemmas.List.{drop_at, take_at, take-append-drop}
 use Rattle.std.specs.Prelude.{OnErr, OnOk}
 use Rattle.cdr_core.specs.declared.order.Order.{Order}
@@ -12,11 +12,14 @@ use Rattle.giop_core.specs.declared.error.WriteError.TheVariants.{TooLong, Memor
 use Rattle.giop_core.specs.declared.header.MessageKind.{MessageKind}
 use Rattle.giop_core.specs.declared.header.Version.{Version}
 use Rattle.giop_core.specs.Written.{behind_header, message_octets, octets_body}
+use Rattle.giop_core.specs.Items.{item_at}
+use Rattle.giop_proxy.specs.declared.fields.Fields.{Fields}
+use Rattle.giop_proxy.specs.declared.fields.Fields.TheVariants as fields
 use Rattle.giop_proxy.specs.declared.placed.PlacingError.{PlacingError}
 use Rattle.giop_proxy.specs.declared.placed.PlacingError.TheVariants as refused
-use Rattle.giop_proxy.specs.Placing.{end_of, fields_at, refused_as, size_of, Appends, IsOver}
-use Rattle.giop_proxy.specs.PlacingPrivate.{with_octets, AppendsAt, Begins, BeginsAt, IsEnded}
-use Rattle.giop_proxy.proofs.Choosing.{fields_within, first_chosen, found, none_chosen, second_chosen, Follows}
+use Rattle.giop_proxy.specs.Placing.{end_of, fields_at, principal_for, refused_as, size_of, wish_in, Appends, IsOver}
+use Rattle.giop_proxy.specs.PlacingPrivate.{fields_for, with_octets, AppendsAt, Begins, BeginsAt, IsEnded}
+use Rattle.giop_proxy.proofs.Choosing.{fields_within, first_chosen, found, none_chosen, reply_longer, request_longer, second_chosen, Follows, Longer}
 use Rattle.giop_proxy.proofs.Ending.{message-length}
 
 pub front_kept : (n : ℕ) (xs : List ℕ) → Keeps (take n xs) xs
@@ -46,49 +49,49 @@ module _ (order : Order) (fs : List Value) (old begun : List ℕ) (b : Begins {A
   pub begun-keeps : Keeps old begun
   begun-keeps = record { more = b.0 ++ octets_of_all order (values fs) 12; parts = b.2 }
 
-module _ (version : Version) (kind : MessageKind) (order : Order) (limit place : ℕ) (body : List ℕ) (fields : Bool → List Value) where
+module _ (version : Version) (kind : MessageKind) (order : Order) (limit place : ℕ) (body : List ℕ) (forms : Bool → List Value) where
   abbrev chosen : Option (List Value)
-  chosen = fields_at version order place body fields
+  chosen = fields_at version order place body forms
 
   abbrev pub Answers : Result (Unit {0}) PlacingError → List ℕ → List ℕ → Type 0
   Answers r old new = AppendsAt version kind order limit body chosen r old new
 
-  -- the fields are too long, with the context that says nothing or without it
-  over : limit < 2 ^ 32 → (padded : Bool) → 2 ^ 32 ≤ length (octets_of_all order (values (fields padded)) 12) → (fs : List Value) → fields padded ≡ fs → limit < size_of version kind order body fs
-  over lt padded long fs is = subst (λ (x : List Value). limit < size_of version kind order body x) is (omega (arith, lt, long, fields_within version kind order body (fields padded)))
+  -- the forms are too long, with the context that says nothing or without it
+  over : limit < 2 ^ 32 → (padded : Bool) → 2 ^ 32 ≤ length (octets_of_all order (values (forms padded)) 12) → (fs : List Value) → forms padded ≡ fs → limit < size_of version kind order body fs
+  over lt padded long fs is = subst (λ (x : List Value). limit < size_of version kind order body x) is (omega (arith, lt, long, fields_within version kind order body (forms padded)))
 
-  pub first-refused : limit < 2 ^ 32 → length (octets_of_all order (values (fields false)) 12) + 12 ≤ length (octets_of_all order (values (fields true)) 12)
-      → (e : WriteError) (old new : List ℕ) → Begins {A = Bool} order (fields false) (Err e) old new → Answers (Err (refused_as e)) old new
+  pub first-refused : limit < 2 ^ 32 → length (octets_of_all order (values (forms false)) 12) + 12 ≤ length (octets_of_all order (values (forms true)) 12)
+      → (e : WriteError) (old new : List ℕ) → Begins {A = Bool} order (forms false) (Err e) old new → Answers (Err (refused_as e)) old new
   first-refused lt longer TooLong old new h = (each, h.1)
     where
-      by-one : (padded : Bool) → 2 ^ 32 ≤ length (octets_of_all order (values (fields padded)) 12)
+      by-one : (padded : Bool) → 2 ^ 32 ≤ length (octets_of_all order (values (forms padded)) 12)
       by-one false = h.0
       by-one true = omega (arith, h.0, longer)
 
       each : (fs : List Value) → chosen ≡ Some fs → limit < size_of version kind order body fs
-      each fs e = let f = found version order place body fields fs e in over lt f.0 (by-one f.0) fs f.1
+      each fs e = let f = found version order place body forms fs e in over lt f.0 (by-one f.0) fs f.1
   first-refused lt longer Memory old new h = h
 
   -- the one way is known
-  pub one-refused : limit < 2 ^ 32 → (padded : Bool) → ((fs : List Value) → chosen ≡ Some fs → fields padded ≡ fs) → (e : WriteError) (old new : List ℕ) → Begins {A = Bool} order (fields padded) (Err e) old new → Answers (Err (refused_as e)) old new
+  pub one-refused : limit < 2 ^ 32 → (padded : Bool) → ((fs : List Value) → chosen ≡ Some fs → forms padded ≡ fs) → (e : WriteError) (old new : List ℕ) → Begins {A = Bool} order (forms padded) (Err e) old new → Answers (Err (refused_as e)) old new
   one-refused lt padded only TooLong old new h = (λ fs e. over lt padded h.0 fs (only fs e), h.1)
   one-refused lt padded only Memory old new h = h
 
   -- it goes on with its body
 
-  module _ (padded : Bool) (old begun : List ℕ) (is : chosen ≡ Some (fields padded)) (b : Begins {A = Bool} order (fields padded) (Ok true) old begun) where
+  module _ (padded : Bool) (old begun : List ℕ) (is : chosen ≡ Some (forms padded)) (b : Begins {A = Bool} order (forms padded) (Ok true) old begun) where
     abbrev after : List ℕ
-    after = behind_header version kind order (fields padded) (octets_body body)
+    after = behind_header version kind order (forms padded) (octets_body body)
 
     told : with_octets version kind order body (drop (length old + 12) begun) ≡ after
     unfolding behind_header
-    told = ap (with_octets version kind order body) (begun-behind order (fields padded) old begun b)
+    told = ap (with_octets version kind order body) (begun-behind order (forms padded) old begun b)
 
-    only : (fs : List Value) → chosen ≡ Some fs → fields padded ≡ fs
-    only fs e = let both : Some (fields padded) ≡ Some fs = sym is ∙ e in cc
+    only : (fs : List Value) → chosen ≡ Some fs → forms padded ≡ fs
+    only fs e = let both : Some (forms padded) ≡ Some fs = sym is ∙ e in cc
 
     by-message : (r : Result (Unit {0}) PlacingError) (new : List ℕ) → IsEnded limit (message_octets version kind order after) r old new → Answers r old new
-    by-message (Ok x) new h = record { chosen = fields padded; are = is; within = omega (arith, h.0, message-length version kind order after); appended = h.1 }
+    by-message (Ok x) new h = record { chosen = forms padded; are = is; within = omega (arith, h.0, message-length version kind order after); appended = h.1 }
     by-message (Err refused.TooLong) new h = (λ fs e. subst (λ (x : List Value). limit < size_of version kind order body x) (only fs e) (omega (arith, h.0, message-length version kind order after)), h.1)
     by-message (Err refused.Memory) new h = h
     by-message (Err refused.Place) new h = absurd h
@@ -99,7 +102,7 @@ module _ (version : Version) (kind : MessageKind) (order : Order) (limit place :
         → IsEnded limit (message_octets version kind order (with_octets version kind order body (drop (length old + 12) begun))) r (take (length old) begun) new → Answers r old new
     ended r new h =
         by-message r new (subst (λ (xs : List ℕ). IsEnded limit (message_octets version kind order xs) r old new) told
-        (subst (λ (xs : List ℕ). IsEnded limit (message_octets version kind order (with_octets version kind order body (drop (length old + 12) begun))) r xs new) (begun-front order (fields padded) old begun b) h))
+        (subst (λ (xs : List ℕ). IsEnded limit (message_octets version kind order (with_octets version kind order body (drop (length old + 12) begun))) r xs new) (begun-front order (forms padded) old begun b) h))
 
     -- from where it began, by the kind that the code names
     pub ended-at : (start : ℕ) → start ≡ length old → (k : MessageKind) → k ≡ kind → (r : Result (Unit {0}) PlacingError) (new : List ℕ)
@@ -110,32 +113,32 @@ module _ (version : Version) (kind : MessageKind) (order : Order) (limit place :
 
 -- the two ways to begin
 
-module _ (version : Version) (kind : MessageKind) (order : Order) (place : ℕ) (body : List ℕ) (fields : Bool → List Value) where
+module _ (version : Version) (kind : MessageKind) (order : Order) (place : ℕ) (body : List ℕ) (forms : Bool → List Value) where
   abbrev pub Begun : Result (Unit {0}) PlacingError → List ℕ → List ℕ → Type 0
-  Begun r old new = BeginsAt version kind order place body fields r old new
+  Begun r old new = BeginsAt version kind order place body forms r old new
 
-  pub begun-first : (old new : List ℕ) → Follows version order place body fields false true → Begins {A = Bool} order (fields false) (Ok true) old new → Begun (Ok tt) old new
-  begun-first old new follows b = (false, first_chosen version order place body fields follows, b)
+  pub begun-first : (old new : List ℕ) → Follows version order place body forms false true → Begins {A = Bool} order (forms false) (Ok true) old new → Begun (Ok tt) old new
+  begun-first old new follows b = (false, first_chosen version order place body forms follows, b)
 
-  pub begun-second : (old new : List ℕ) → Follows version order place body fields false false → Follows version order place body fields true true → Begins {A = Bool} order (fields true) (Ok true) old new → Begun (Ok tt) old new
-  begun-second old new not follows b = (true, second_chosen version order place body fields not follows, b)
+  pub begun-second : (old new : List ℕ) → Follows version order place body forms false false → Follows version order place body forms true true → Begins {A = Bool} order (forms true) (Ok true) old new → Begun (Ok tt) old new
+  begun-second old new not follows b = (true, second_chosen version order place body forms not follows, b)
 
-  pub begun-nowhere : (old new : List ℕ) → Follows version order place body fields false false → Follows version order place body fields true false → Begins {A = Bool} order (fields true) (Ok true) old new → Begun (Err refused.Place) old new
-  begun-nowhere old new not never b = (none_chosen version order place body fields not never, begun-keeps order (fields true) old new b)
+  pub begun-nowhere : (old new : List ℕ) → Follows version order place body forms false false → Follows version order place body forms true false → Begins {A = Bool} order (forms true) (Ok true) old new → Begun (Err refused.Place) old new
+  begun-nowhere old new not never b = (none_chosen version order place body forms not never, begun-keeps order (forms true) old new b)
 
-  pub first-fails : length (octets_of_all order (values (fields false)) 12) + 12 ≤ length (octets_of_all order (values (fields true)) 12) → (e : WriteError) (old new : List ℕ)
-      → Begins {A = Bool} order (fields false) (Err e) old new → Begun (Err (refused_as e)) old new
-  first-fails longer e old new h = first-refused version kind order 4294967295 place body fields (omega arith) longer e old new h
+  pub first-fails : length (octets_of_all order (values (forms false)) 12) + 12 ≤ length (octets_of_all order (values (forms true)) 12) → (e : WriteError) (old new : List ℕ)
+      → Begins {A = Bool} order (forms false) (Err e) old new → Begun (Err (refused_as e)) old new
+  first-fails longer e old new h = first-refused version kind order 4294967295 place body forms (omega arith) longer e old new h
 
-  pub second-fails : Follows version order place body fields false false → (e : WriteError) (old new : List ℕ) → Begins {A = Bool} order (fields true) (Err e) old new → Begun (Err (refused_as e)) old new
-  second-fails not e old new h = one-refused version kind order 4294967295 place body fields (omega arith) true only-second e old new h
+  pub second-fails : Follows version order place body forms false false → (e : WriteError) (old new : List ℕ) → Begins {A = Bool} order (forms true) (Err e) old new → Begun (Err (refused_as e)) old new
+  second-fails not e old new h = one-refused version kind order 4294967295 place body forms (omega arith) true only-second e old new h
     where
-      by-form : (padded : Bool) (fs : List Value) → fields padded ≡ fs → Follows version order place body fields padded true → fields true ≡ fs
+      by-form : (padded : Bool) (fs : List Value) → forms padded ≡ fs → Follows version order place body forms padded true → forms true ≡ fs
       by-form true fs is follows = is
       by-form false fs is follows = absurd (let both : false ≡ true = sym not ∙ follows in cc)
 
-      only-second : (fs : List Value) → fields_at version order place body fields ≡ Some fs → fields true ≡ fs
-      only-second fs e = let f = found version order place body fields fs e in by-form f.0 fs f.1 f.2
+      only-second : (fs : List Value) → fields_at version order place body forms ≡ Some fs → forms true ≡ fs
+      only-second fs e = let f = found version order place body forms fs e in by-form f.0 fs f.1 f.2
 
 -- a greater limit is passed where a less one is
 
@@ -196,3 +199,13 @@ module _ (version : Version) (kind : MessageKind) (order : Order) (limit : ℕ) 
 
   pub at-status : (r : Result (Unit {0}) PlacingError) → Of r → r ≡ Err refused.Status → ⊥
   at-status r h e = subst Of e h
+
+-- the fields of either kind
+
+pub fields_longer : (version : Version) (order : Order) (f : Fields) (place : ℕ) (body : List ℕ) → Longer order (fields_for version f place body false) (fields_for version f place body true)
+fields_longer version order (fields.Request r) place body = request_longer order (map item_at r.contexts.now) r.request_id (wish_in version r.wish) r.object_key.now r.operation.now (principal_for place body) version
+fields_longer version order (fields.Reply r) place body = reply_longer order (map item_at r.contexts.now) version r.request_id r.status
+
+-- after a message was begun and cut back, the output is as it was
+pub back-again : (order : Order) (fs : List Value) (start : ℕ) (old mid cut : List ℕ) → start ≡ length old → Begins {A = Bool} order fs (Ok true) old mid → cut ≡ take start mid → cut ≡ old
+back-again order fs start old mid cut same b e = e ∙ ap (λ (n : ℕ). take n mid) same ∙ begun-front order fs old mid b

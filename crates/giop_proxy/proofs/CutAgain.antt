@@ -252,4 +252,4 @@ cuts_take message place (p ∷ ats) h long =
     let left = drop n whole in
     let f = first_frame h front in
     let more = flat_map frame_octets (fragments_of h [] (chunks_at (12 + n) (in_message place ats) left)) in
-    omega (arith, long, frame-length f, length-append (frame_octets f) more, fragments-length h (in_message place ats) (12 + n) left, length-map (λ (at : ℕ). place + at) ats, length-append front left, ap length (take-append-drop n whole), length-drop 12 message)
+    omega (arith, long, frame-length f, length-append (frame_octets f) more, fragments-length h (in_message place ats) (12 + n) left, length-map ats (λ (at : ℕ). place + at), length-append front left, ap length (take-append-drop n whole), length-drop 12 message)

@@ -150,12 +150,12 @@ body-put version kind order end (x ∷ xs) old gapped new b are some gap put =
 
 pub put-ok : (version : Version) (kind : MessageKind) (order : Order) (end : ℕ) (body old gapped new : List ℕ) → HasBody kind → AreOctets body → (length body == 0) ≡ false → gapped ≡ old ++ gap_at version end
     → (r : Result (Unit {0}) AllocError) → new ≡ (if is_ok r then gapped ++ body else gapped) → OnOk r (new ≡ old ++ body_octets version kind order (octets_body body) end)
-put-ok version kind order end body old gapped new b are some gap (Ok x) put = body-put version kind order end body old gapped new b are some gap put
-put-ok version kind order end body old gapped new b are some gap (Err x) put = tt
+put-ok version kind order end body old gapped new b are some filled (Ok x) put = body-put version kind order end body old gapped new b are some filled put
+put-ok version kind order end body old gapped new b are some filled (Err x) put = tt
 
 pub put-err : (version : Version) (end : ℕ) (body old gapped new : List ℕ) → gapped ≡ old ++ gap_at version end → (r : Result (Unit {0}) AllocError) → new ≡ (if is_ok r then gapped ++ body else gapped) → OnErr r (Keeps old new)
-put-err version end body old gapped new gap (Ok x) put = tt
-put-err version end body old gapped new gap (Err x) put = record { more = gap_at version end; parts = put ∙ gap }
+put-err version end body old gapped new filled (Ok x) put = tt
+put-err version end body old gapped new filled (Err x) put = record { more = gap_at version end; parts = put ∙ filled }
 
 -- a body of no octets
 pub none-put : (version : Version) (kind : MessageKind) (order : Order) (end : ℕ) (body old : List ℕ) → HasBody kind → AreOctets body → (length body == 0) ≡ true → old ≡ old ++ body_octets version kind order (octets_body body) end
@@ -203,8 +203,25 @@ module _ (version : Version) (kind : MessageKind) (order : Order) (limit start :
     pub ended-ok : begun_at version end body + length body ≤ limit → new ≡ take start bodied ++ message_octets version kind order (drop (start + 12) bodied)
         → IsEnded {A = Unit {0}} limit (message_octets version kind order (with_octets version kind order body (drop (start + 12) old))) (Ok tt) (take start old) new
     ended-ok within h =
-        let parts = ended-behind version kind order start e body old bodied le is put in
-        (
+        let parts = ended-behind version kind order start e body old bodied le is put in (
           omega (arith, within, ended-length version kind order start body old b are le),
           h ∙ ap (λ (xs : List ℕ). xs ++ message_octets version kind order (drop (start + 12) bodied)) parts.0 ∙ ap (λ (xs : List ℕ). take start old ++ message_octets version kind order xs) parts.1,
         )
+
+-- the same, by what the code computes: where the fields end, and where the body begins
+
+module _ (version : Version) (kind : MessageKind) (order : Order) (limit start : ℕ) (body old : List ℕ) (b : HasBody kind) (are : AreOctets body) (le : start + 12 ≤ length old)
+    (e n : ℕ) (is : e ≡ length old - start) (was : n ≡ begun_at version e body) where
+  begun-same : n ≡ begun_at version (length old - start) body
+  begun-same = was ∙ ap (λ (m : ℕ). begun_at version m body) is
+
+  pub long-at : limit < n + length body → IsEnded {A = Unit {0}} limit (message_octets version kind order (with_octets version kind order body (drop (start + 12) old))) (Err refused.TooLong) (take start old) old
+  long-at over = ended-long version kind order limit start body old b are le (omega (arith, over, begun-same))
+
+  module _ (bodied new : List ℕ) (put : bodied ≡ old ++ body_octets version kind order (octets_body body) e) where
+    pub size-at : length bodied ≡ start + (n + length body)
+    size-at = omega (arith, bodied-size version kind order limit start body old b are le e is bodied new put, begun-same)
+
+    pub ok-at : n + length body ≤ limit → new ≡ take start bodied ++ message_octets version kind order (drop (start + 12) bodied)
+        → IsEnded {A = Unit {0}} limit (message_octets version kind order (with_octets version kind order body (drop (start + 12) old))) (Ok tt) (take start old) new
+    ok-at within h = ended-ok version kind order limit start body old b are le e is bodied new put (omega (arith, within, begun-same)) h

@@ -9,3 +9,4 @@ pub mod Appended
 pub mod Places
 pub mod Shortest
 pub mod Requesting
+pub mod Fragmenting

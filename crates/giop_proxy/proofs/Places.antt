@@ -45,7 +45,7 @@ principal_ends order front principal =
 turn : (q place e : ℕ) → q % 4 ≡ 0 → e ≡ q + place % 4 → (e % 8 ≡ place % 8 → ⊥) → (e + 12) % 8 ≡ place % 8
 turn q place e whole is not = omega (arith, whole, is, not)
 
-principal_size : (place x : ℕ) (xs : List ℕ) → length (principal_for place (x ∷ xs)) ≡ place % 4
+pub principal_size : (place x : ℕ) (xs : List ℕ) → length (principal_for place (x ∷ xs)) ≡ place % 4
 principal_size place x xs = length-replicate {A = ℕ} (place % 4) 0
 
 module _ (order : Order) (id : ℕ) (wish : ReplyWish) (key operation : List ℕ) (contexts : List (ℕ × List ℕ)) (place : ℕ) where
@@ -56,10 +56,10 @@ module _ (order : Order) (id : ℕ) (wish : ReplyWish) (key operation : List ℕ
   at_11 body padded = request_for V11 id wish key operation contexts place body padded
 
   some : (o : Option (List Value)) (fs : List Value) → o ≡ Some fs → IsSome o
-  some o fs e = rw e tt
+  some o fs e = rw e refl
 
   place_10 : (body : List ℕ) → IsSome (fields_at V10 order place body (at_10 body))
-  place_10 [] = tt
+  place_10 [] = refl
   place_10 (x ∷ xs) =
       let body = x ∷ xs in
       let w = wish_in V10 wish in
@@ -76,7 +76,7 @@ module _ (order : Order) (id : ℕ) (wish : ReplyWish) (key operation : List ℕ
       ]
 
   place_11 : (body : List ℕ) → IsSome (fields_at V11 order place body (at_11 body))
-  place_11 [] = tt
+  place_11 [] = refl
   place_11 (x ∷ xs) =
       let body = x ∷ xs in
       let w = wish_in V11 wish in

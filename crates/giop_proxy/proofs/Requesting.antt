@@ -1,6 +1,6 @@
 -- A Request as far as its fields: its empty principal is made one of some octets.
-use Rattle.std.proofs.Common.{◌≡◌, ◌==◌, inl, inr, ℕ, ◌+◌, ◌-◌, ◌%◌, ◌<◌, ◌≤◌, ◌^◌, true, false, List, [], ◌∷◌, ◌++◌, length, take, replicate, Result, Ok, Err, refl, sym, ap, ◌∙◌, arith, length-append}
-use Rattle.std.specs.declared.alloc.AllocError.{AllocError}
+use Rattle.std.proofs.Common.{◌≡◌, ◌==◌, inl, inr, ℕ, ◌+◌, ◌-◌, ◌%◌, ◌<◌, ◌≤◌, ◌^◌, true, false, List, [], ◌∷◌, ◌++◌, length, take, drop, replicate, Result, Ok, Err, refl, sym, ap, ◌∙◌, arith, length-append}
+use Rattle.std.proofs.lemmas.List.{drop_at, take-append-le, take-replicate}
 use Rattle.cdr_core.specs.declared.order.Order.{Order}
 use Rattle.cdr_core.specs.Parts.{ulong_value}
 use Rattle.cdr_core.specs.Private.{Keeps}
@@ -65,3 +65,18 @@ principal-none place (x ∷ xs) none = elim (test_eq (length (x ∷ xs)) 0) [ in
 pub principal-some : (place : ℕ) (body : List ℕ) → (length body == 0) ≡ false → replicate (place % 4) 0 ≡ principal_for place body
 principal-some place [] some = absurd cc
 principal-some place (x ∷ xs) some = refl
+
+-- its octets, behind its size in place of that of none
+
+abbrev pub four_zeros : List ℕ
+four_zeros = 0 ∷ 0 ∷ 0 ∷ 0 ∷ []
+
+pub zeros-taken : (n : ℕ) → n < 4 → take n four_zeros ≡ replicate n 0
+zeros-taken n lt = let zero : ℕ = 0 in take-replicate n 4 zero (omega (arith, lt))
+
+pub principal-at : (size at : ℕ) (old octets mid digits new : List ℕ) → at ≡ length old - 4 → 4 ≤ length old → octets ≡ replicate size 0 → mid ≡ old ++ octets → new ≡ take at mid ++ (digits ++ drop (at + 4) mid)
+    → new ≡ take (length old - 4) old ++ (digits ++ replicate size 0)
+principal-at size at old octets mid digits new is long zeros grown put =
+    let front : take at mid ≡ take (length old - 4) old = ap (take at) grown ∙ take-append-le at old octets (omega (arith, is)) ∙ ap (λ (n : ℕ). take n old) is in
+    let behind : drop (at + 4) mid ≡ replicate size 0 = ap (drop (at + 4)) grown ∙ drop_at old octets (at + 4) (omega (arith, is, long)) ∙ zeros in
+    put ∙ ap (λ (xs : List ℕ). xs ++ (digits ++ drop (at + 4) mid)) front ∙ ap (λ (xs : List ℕ). take (length old - 4) old ++ (digits ++ xs)) behind

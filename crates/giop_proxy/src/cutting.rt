@@ -1,6 +1,6 @@
 //! A message of 1.1, cut at given places (GIOP 9.4.9).
 
-ghost use Rattle.std.specs.Prelude.{◌≡◌, ◌+◌, ◌<◌, ◌≤◌, ◌++◌, ◌^◌, [], ◌∷◌, false, length, take, drop, Ok, IsTrue, MatchOption, OnErr, OnOk};
+ghost use Rattle.std.specs.Prelude.{◌≡◌, ◌+◌, ◌-◌, ◌<◌, ◌≤◌, ◌++◌, ◌^◌, [], ◌∷◌, false, length, take, drop, Ok, IsTrue, MatchOption, OnErr, OnOk};
 ghost use Rattle.std.specs.List.{flat_map};
 ghost use Rattle.giop_core.specs.declared.header.Header.{Header as GivenHeader};
 ghost use Rattle.giop_core.specs.declared.header.MessageKind.TheVariants.{Fragment};
@@ -67,6 +67,14 @@ fn split(octets: &[u8], size: u64) -> (&[u8], &[u8])
     octets.split_at((size as usize).min(octets.len()))
 }
 
+/// How many octets stand before a cut of a body, which begins at `place`, from `start` on.
+fn size_to(place: u32, at: u32, start: u64) -> u64
+    ensures is { result ≡ (place + at) - start }
+    ensures near { start < 2 ^ 34 → start + result < 2 ^ 34 }
+{
+    (u64::from(place) + u64::from(at)).saturating_sub(start)
+}
+
 /// Appends Fragments of octets of a message, the first of which stands at `start`, cut at these places of its body, which
 /// begins at `place`.
 fn put_fragments(
@@ -86,7 +94,7 @@ fn put_fragments(
     let mut from = start;
     let mut left = octets;
     for at in cuts {
-        let size = (u64::from(place) + u64::from(*at)).saturating_sub(from);
+        let size = size_to(place, *at, from);
         let (front, others) = split(left, size);
         put_fragment(header, true, front, out)?;
         from += size;
@@ -113,7 +121,7 @@ fn put_cut(
 {
     let (_, octets) = message.split_at(Header::LEN);
     let from = Header::LEN as u64;
-    let size = (u64::from(place) + u64::from(first)).saturating_sub(from);
+    let size = size_to(place, first, from);
     let (front, others) = split(octets, size);
     let head = Header {
         more: true,

@@ -1,6 +1,6 @@
 //! The fields of a Request and of a Reply, before a body that stands at a place (GIOP 9.4.2, GIOP 9.4.3).
 
-ghost use Rattle.std.specs.Prelude.{◌≡◌, ◌≤◌, ◌<◌, ◌-◌, ◌++◌, ◌∷◌, [], length, map, replicate, take, IfOk, OnErr, OnOk};
+ghost use Rattle.std.specs.Prelude.{◌≡◌, ◌≤◌, ◌<◌, ◌+◌, ◌-◌, ◌++◌, ◌∷◌, [], drop, length, map, replicate, take, IfOk, OnErr, OnOk};
 ghost use Rattle.cdr_core.specs.Numbers.{digits_of};
 ghost use Rattle.cdr_core.specs.Spelling.{IsClean};
 ghost use Rattle.cdr_core.specs.Value.{no_values};
@@ -82,6 +82,24 @@ fn principal_size(place: u64, body: &[u8]) -> usize
     (place % 4) as usize
 }
 
+/// So many zeros.
+fn zeros(size: usize) -> &'static [u8]
+    requires { size < 4 }
+    ensures { result.now ≡ replicate size 0 }
+{
+    &NOTHING[..size]
+}
+
+/// Writes an unsigned long over the four octets at `at`.
+fn put_ulong_at(order: Order, number: u32, at: usize, out: &mut Vec<u8>)
+    requires { at + 4 ≤ length out.old.items }
+    ensures { out.new.items ≡ take at out.old.items ++ (digits_of order 4 number ++ drop (at + 4) out.old.items) }
+{
+    let mut digits = [0; 4];
+    order.put_ulong(number, &mut digits);
+    out[at..at + 4].copy_from_slice(&digits);
+}
+
 /// Makes the principal, which is empty and ends what was appended, one of so many octets.
 fn put_principal(order: Order, size: usize, out: &mut Vec<u8>) -> Result<(), AllocError>
     requires some { 4 ≤ length out.old.items }
@@ -90,10 +108,9 @@ fn put_principal(order: Order, size: usize, out: &mut Vec<u8>) -> Result<(), All
     ensures err { OnErr result (out.new.items ≡ out.old.items) }
 {
     let end = out.len();
-    out.extend_from_slice(&NOTHING[..size])?;
-    let mut digits = [0; 4];
-    order.put_ulong(size as u32, &mut digits);
-    out[end - 4..end].copy_from_slice(&digits);
+    let octets = zeros(size);
+    out.extend_from_slice(octets)?;
+    put_ulong_at(order, size as u32, end - 4, out);
     Ok(())
 }
 

@@ -107,9 +107,12 @@ pub(crate) fn finish(
     ensures { IsEnded limit (message_octets version kind order (with_octets version kind order body.now (drop (start + 12) out.old.items))) result (take start out.old.items) out.new.items }
 {
     cdr_core::laws::are_octets(body);
-    let end = (out.len() - start) as u64;
-    let size = begun_at(version, body, end) + body.len() as u64;
-    if size > u64::from(limit) {
+    let all = out.len();
+    let end = (all - start) as u64;
+    let begins = begun_at(version, body, end);
+    let size = begins + body.len() as u64;
+    let most = u64::from(limit);
+    if size > most {
         return Err(PlacingError::TooLong);
     }
     put_body(version, kind, order, end, body, out)?;
