@@ -1,8 +1,7 @@
 -- Which fields are written.
-use Rattle.std.proofs.Common.{◌≡◌, ◌==◌, ℕ, ◌+◌, ◌-◌, ◌<◌, ◌≤◌, ◌%◌, ◌^◌, Bool, true, false, List, [], ◌∷◌, ◌++◌, length, replicate, Option, Some, None, refl, sym, ap, subst, ◌∙◌, arith, length-append}
+use Rattle.std.proofs.Common.{◌≡◌, ℕ, ◌+◌, ◌≤◌, Bool, true, false, List, [], ◌∷◌, length, Option, Some, None, refl, arith, length-append}
 use Rattle.std.specs.Prelude.{if◌then◌else◌}
 use Rattle.cdr_core.specs.declared.order.Order.{Order}
-use Rattle.cdr_core.specs.Numbers.{padding}
 use Rattle.cdr_core.specs.Parts.{octet_value, ulong_value}
 use Rattle.cdr_core.specs.Value as value
 use Rattle.cdr_core.specs.Value.{Value, values}
@@ -15,7 +14,7 @@ use Rattle.giop_core.specs.Content as content
 use Rattle.giop_core.specs.Items.{list_value}
 use Rattle.giop_core.specs.Written.{behind_header, body_octets, octets_body, reply_fields, response_expected, response_flags, target_of, zeros}
 use Rattle.giop_proxy.specs.Placing.{contexts_with, fields_at, may_follow, request_fields, size_of}
-use Rattle.giop_proxy.proofs.Shifted.{AllShift, bool_shifts, enum_shifts, first_more, last_longer, list_more, octets_shift, string_shifts, ulong_shifts, zeros_shift}
+use Rattle.giop_proxy.proofs.Shifted.{AllShift, bool_shifts, enum_shifts, first_more, last_longer, list_more, octets_shift, string_shifts, zeros_shift}
 
 -- by the tests
 

@@ -1,5 +1,5 @@
 -- What is cut at given places is read again.
-use Rattle.std.proofs.Common.{◌≡◌, ℕ, zero, suc, ◌+◌, ◌-◌, ◌*◌, ◌<◌, ◌≤◌, ◌==◌, ◌≢◌, ◌&&◌, nat_le, not, Bool, true, false, is_some, List, [], ◌∷◌, ◌++◌, length, take, drop, map, Option, Some, None, Ok, IsOk, refl, sym, ap, subst, ◌∙◌, inl, inr, arith, append_assoc, length-append, length-drop}
+use Rattle.std.proofs.Common.{◌≡◌, ℕ, ◌+◌, ◌-◌, ◌*◌, ◌<◌, ◌≤◌, ◌==◌, ◌&&◌, nat_le, not, Bool, true, false, is_some, List, [], ◌∷◌, ◌++◌, length, take, drop, Option, Some, None, Ok, IsOk, refl, sym, ap, subst, ◌∙◌, inl, inr, arith, append_assoc, length-append, length-drop}
 use Rattle.std.specs.List.{flat_map}
 use Rattle.std.specs.Option.{option_map}
 use Rattle.std.proofs.lemmas.List.{append-nil, length-map, take-append-drop}
@@ -27,7 +27,7 @@ use Rattle.giop_frames.proofs.Deciding.{test_eq, test_le}
 use Rattle.giop_frames.proofs.Readings.{step-done, step-quiet}
 use Rattle.giop_frames.proofs.Rejoins.{Leaves, completes, leaves-role, one_completed}
 use Rattle.giop_frames.proofs.Tables.{opens-other, opens-same, partial-role, partials-step}
-use Rattle.giop_proxy.specs.Cuts.{CutIsReadAgain, CutsTakeHeaders, chunks_at, cut_octets, frames_at, in_message}
+use Rattle.giop_proxy.specs.Cuts.{CutIsReadAgain, CutsTakeHeaders, chunks_at, frames_at, in_message}
 
 -- chunks
 

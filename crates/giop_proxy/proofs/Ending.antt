@@ -1,6 +1,6 @@
 -- The end of the fields, and the body and the header behind and before them.
-use Rattle.std.proofs.Common.{◌≡◌, ◌==◌, ◌⊎◌, inl, inr, ℕ, ◌+◌, ◌-◌, ◌<◌, ◌≤◌, ◌^◌, Bool, true, false, List, [], ◌∷◌, ◌++◌, length, take, drop, map, replicate, Result, Ok, Err, refl, sym, ap, subst, ◌∙◌, arith, append_assoc, length-append}
-use Rattle.std.proofs.lemmas.List.{append-nil, drop-append-le, drop_at, length-drop, length-replicate, take-append-drop, take-append-le, take_at}
+use Rattle.std.proofs.Common.{◌≡◌, ◌==◌, inl, inr, ℕ, ◌+◌, ◌-◌, ◌<◌, ◌≤◌, true, false, List, [], ◌∷◌, ◌++◌, length, take, drop, replicate, Result, Ok, Err, refl, sym, ap, ◌∙◌, arith, append_assoc, length-append}
+use Rattle.std.proofs.lemmas.List.{append-nil, drop-append-le, length-drop, length-replicate, take-append-drop, take-append-le, take_at}
 use Rattle.std.specs.Prelude.{if◌then◌else◌, OnErr, OnOk}
 use Rattle.std.specs.Result.{is_ok}
 use Rattle.std.specs.declared.alloc.AllocError.{AllocError}
@@ -9,19 +9,18 @@ use Rattle.cdr_core.specs.Numbers.{digits_of, padding, AreOctets}
 use Rattle.cdr_core.specs.Private.{Keeps}
 use Rattle.cdr_core.specs.Value as value
 use Rattle.cdr_core.specs.Value.{Value, Values, no_values, values}
-use Rattle.cdr_core.specs.Writing.{number_octets, octets_of, octets_of_all}
+use Rattle.cdr_core.specs.Writing.{octets_of_all}
 use Rattle.cdr_core.proofs.Appending.{keeps_all, octets-last}
 use Rattle.cdr_core.proofs.Lengths.{digits_length}
 use Rattle.cdr_core.proofs.Turns.{with_last}
 use Rattle.giop_core.specs.declared.error.WriteError.{WriteError}
 use Rattle.giop_core.specs.declared.error.WriteError.TheVariants.{TooLong, Memory}
 use Rattle.giop_core.specs.declared.header.MessageKind.{MessageKind}
-use Rattle.giop_core.specs.declared.header.MessageKind.TheVariants as kind
 use Rattle.giop_core.specs.declared.header.Version.{Version}
 use Rattle.giop_core.specs.declared.header.Version.TheVariants.{V10, V11, V12}
 use Rattle.giop_core.specs.Headers.{header_octets}
-use Rattle.giop_core.specs.Written.{aligned_octets, behind_gap, behind_header, body_octets, header_for, message_octets, octets_body, Wrote}
-use Rattle.giop_core.proofs.OctetsBody.{body_length, body_read}
+use Rattle.giop_core.specs.Written.{behind_gap, behind_header, body_octets, header_for, message_octets, octets_body, Wrote}
+use Rattle.giop_core.proofs.OctetsBody.{body_read}
 use Rattle.giop_frames.proofs.Deciding.{test_eq}
 use Rattle.giop_proxy.specs.declared.placed.PlacingError.TheVariants as refused
 use Rattle.giop_proxy.specs.Placing.{begins_at}

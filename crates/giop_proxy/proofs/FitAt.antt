@@ -1,11 +1,11 @@
 -- The fields of a Request with a principal fit its row, where their octets are not too long.
-use Rattle.std.proofs.Common.{◌≡◌, ℕ, zero, suc, ◌+◌, ◌<◌, ◌^◌, ℤ, pos, false, List, [], ◌∷◌, ◌++◌, length, map, refl, arith, length-append}
+use Rattle.std.proofs.Common.{◌≡◌, ℕ, zero, suc, ◌+◌, ◌<◌, ◌^◌, pos, false, List, [], ◌∷◌, ◌++◌, length, map, refl, arith, length-append}
 use Rattle.std.proofs.lemmas.Int.{ints}
 use Rattle.std.specs.Int.{FitsUnsigned, w32}
 use Rattle.cdr_core.specs.declared.order.Order.{Order}
 use Rattle.cdr_core.specs.Fitting.{AllFit, Fits}
 use Rattle.cdr_core.specs.Form as form
-use Rattle.cdr_core.specs.Parts.{octet_value, raw, text, ulong, ulong_value}
+use Rattle.cdr_core.specs.Parts.{raw, text}
 use Rattle.cdr_core.specs.Spelling.{IsClean}
 use Rattle.cdr_core.specs.Value as value
 use Rattle.cdr_core.specs.Value.{Value, Values, count, values}

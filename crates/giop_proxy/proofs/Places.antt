@@ -1,5 +1,5 @@
 -- In 1.0 and 1.1 the body of a Request may stand at every place.
-use Rattle.std.proofs.Common.{◌≡◌, ◌==◌, ◌⊎◌, inl, inr, ℕ, ◌+◌, ◌-◌, ◌<◌, ◌≤◌, ◌%◌, Bool, true, false, List, [], ◌∷◌, ◌++◌, length, replicate, Option, Some, None, IsSome, refl, sym, ap, subst, ◌∙◌, arith, length-append}
+use Rattle.std.proofs.Common.{◌≡◌, inl, inr, ℕ, ◌+◌, ◌%◌, Bool, true, false, List, [], ◌∷◌, ◌++◌, length, Option, Some, IsSome, refl, ap, ◌∙◌, arith, length-append}
 use Rattle.std.proofs.lemmas.Bool.{eq-eqb}
 use Rattle.std.proofs.lemmas.List.{length-replicate}
 use Rattle.cdr_core.specs.declared.order.Order.{Order}
@@ -11,13 +11,12 @@ use Rattle.cdr_core.specs.Writing.{number_octets, octets_of_all}
 use Rattle.cdr_core.proofs.Appending.{octets-last}
 use Rattle.cdr_core.proofs.Lengths.{number_length}
 use Rattle.cdr_core.proofs.Turns.{with_last}
-use Rattle.giop_core.specs.declared.header.Version.{Version}
 use Rattle.giop_core.specs.declared.header.Version.TheVariants.{V10, V11, V12}
 use Rattle.giop_core.specs.declared.request.ReplyWish.{ReplyWish}
 use Rattle.giop_core.specs.Items.{list_value}
 use Rattle.giop_core.specs.Written.{response_expected, zeros}
 use Rattle.giop_frames.proofs.Deciding.{test_eq}
-use Rattle.giop_proxy.specs.Placing.{contexts_with, end_of, fields_at, principal_for, request_fields, request_for, wish_in}
+use Rattle.giop_proxy.specs.Placing.{end_of, fields_at, principal_for, request_for, wish_in}
 use Rattle.giop_proxy.specs.PlacingLaws.{RequestsHavePlaces}
 use Rattle.giop_proxy.proofs.Choosing.{first_chosen, second_chosen, request_shifts_10, request_shifts_11}
 use Rattle.giop_proxy.proofs.Shifted.{first_more}

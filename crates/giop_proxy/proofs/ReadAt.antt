@@ -4,10 +4,7 @@ use Rattle.cdr_core.specs.declared.order.Order.{Order}
 use Rattle.cdr_core.specs.Laws.{SpelledIsRead, WrittenIsSpelled}
 use Rattle.cdr_core.specs.Numbers.{padding, AreOctets}
 use Rattle.cdr_core.specs.Spelling.{IsClean}
-use Rattle.cdr_core.specs.Value as value
-use Rattle.cdr_core.specs.Value.{Value, values}
-use Rattle.cdr_core.specs.Writing.{octets_of_all}
-use Rattle.giop_core.specs.declared.header.MessageKind.{MessageKind}
+use Rattle.cdr_core.specs.Value.{Value}
 use Rattle.giop_core.specs.declared.header.MessageKind.TheVariants as kind
 use Rattle.giop_core.specs.declared.header.Version.{Version}
 use Rattle.giop_core.specs.declared.header.Version.TheVariants.{V10, V11, V12}
@@ -16,13 +13,11 @@ use Rattle.giop_core.specs.declared.request.ReplyWish.TheVariants as wish
 use Rattle.giop_core.specs.Content as content
 use Rattle.giop_core.specs.Content.{content, wish_if, Content, Rest}
 use Rattle.giop_core.specs.Laws.{HaveTags, IsReadAs, WrittenReplyIsRead, WrittenRequestIsRead, rest_after}
-use Rattle.giop_core.specs.Messages.{message_of}
-use Rattle.giop_core.specs.Statuses.{reply_statuses}
 use Rattle.giop_core.specs.Written.{behind_header, octets_body, response_expected}
 use Rattle.giop_core.proofs.Again.{all_again}
 use Rattle.giop_core.proofs.OctetsBody.{body_read}
 use Rattle.giop_core.proofs.ReadAgain.{read_as}
-use Rattle.giop_proxy.specs.Placing.{begins_at, contexts_with, end_of, fields_at, may_begin, may_follow, padding_context, principal_for, reply_for, request_fields, request_for, size_of, wish_in}
+use Rattle.giop_proxy.specs.Placing.{begins_at, contexts_with, end_of, padding_context, principal_for, reply_for, request_fields, request_for, wish_in}
 use Rattle.giop_proxy.specs.PlacingLaws.{IsReadAt, PlacedRepliesAreRead, PlacedRequestsAreRead}
 use Rattle.giop_proxy.proofs.Choosing.{found}
 use Rattle.giop_proxy.proofs.FitAt.{fits_10, fits_11}

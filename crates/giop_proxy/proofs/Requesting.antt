@@ -1,5 +1,5 @@
 -- A Request as far as its fields: its empty principal is made one of some octets.
-use Rattle.std.proofs.Common.{◌≡◌, ◌==◌, inl, inr, ℕ, ◌+◌, ◌-◌, ◌%◌, ◌<◌, ◌≤◌, ◌^◌, true, false, List, [], ◌∷◌, ◌++◌, length, take, drop, replicate, Result, Ok, Err, refl, sym, ap, ◌∙◌, arith, length-append}
+use Rattle.std.proofs.Common.{◌≡◌, ◌==◌, inl, inr, ℕ, ◌+◌, ◌-◌, ◌%◌, ◌<◌, ◌≤◌, true, false, List, [], ◌∷◌, ◌++◌, length, take, drop, replicate, Ok, Err, refl, ap, ◌∙◌, arith, length-append}
 use Rattle.std.proofs.lemmas.List.{drop_at, take-append-le, take-replicate}
 use Rattle.cdr_core.specs.declared.order.Order.{Order}
 use Rattle.cdr_core.specs.Parts.{ulong_value}
@@ -21,7 +21,7 @@ use Rattle.giop_proxy.specs.Placing.{principal_for, request_fields}
 use Rattle.giop_frames.proofs.Deciding.{test_eq}
 use Rattle.giop_proxy.specs.PlacingPrivate.{ends_with, Begins}
 use Rattle.giop_proxy.proofs.Ending.{principal-put}
-use Rattle.giop_proxy.proofs.Places.{behind_length, principal_ends}
+use Rattle.giop_proxy.proofs.Places.{principal_ends}
 
 module _ (order : Order) (id : ℕ) (wish : ReplyWish) (key operation : List ℕ) (contexts : List (ℕ × List ℕ)) where
   abbrev front_10 : Values

@@ -1,16 +1,16 @@
 -- Values of which each is aligned to 4 at most have the same octets twelve places later; and what one more service context of four
 -- octets moves.
-use Rattle.std.proofs.Common.{◌≡◌, ℕ, ◌+◌, ◌-◌, ◌<◌, ◌≤◌, ◌%◌, Bool, true, false, List, [], ◌∷◌, ◌++◌, length, map, replicate, refl, sym, ap, ◌∙◌, arith, length-append}
+use Rattle.std.proofs.Common.{◌≡◌, ℕ, ◌+◌, ◌≤◌, ◌%◌, Bool, true, false, List, [], ◌∷◌, ◌++◌, length, map, replicate, refl, sym, ap, ◌∙◌, arith, length-append}
 use Rattle.std.proofs.lemmas.List.{append-nil}
 use Rattle.cdr_core.specs.declared.order.Order.{Order}
 use Rattle.cdr_core.specs.Numbers.{digits_of, padding}
-use Rattle.cdr_core.specs.Parts.{octet_value, ulong_value}
+use Rattle.cdr_core.specs.Parts.{ulong_value}
 use Rattle.cdr_core.specs.Value as value
 use Rattle.cdr_core.specs.Value.{Value, Values, count, values}
 use Rattle.cdr_core.specs.Writing.{number_octets, octets_of, octets_of_all}
 use Rattle.cdr_core.proofs.Appending.{octets-last}
 use Rattle.cdr_core.proofs.Lengths.{number_length}
-use Rattle.cdr_core.proofs.Turns.{count_values, values_push, with_last}
+use Rattle.cdr_core.proofs.Turns.{values_push}
 use Rattle.giop_core.specs.Items.{list_value, tagged_value}
 use Rattle.giop_core.specs.Written.{zeros}
 use Rattle.giop_core.proofs.OctetsBody.{body_read}

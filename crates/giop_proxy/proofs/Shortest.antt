@@ -1,5 +1,5 @@
 -- No message with the body at its place is shorter than the one that is written.
-use Rattle.std.proofs.Common.{◌≡◌, ◌==◌, ◌⊎◌, inl, inr, ℕ, ◌+◌, ◌-◌, ◌<◌, ◌≤◌, ◌%◌, Bool, true, false, List, [], ◌∷◌, ◌++◌, length, replicate, Option, Some, None, refl, sym, ap, subst, ◌∙◌, arith, length-append}
+use Rattle.std.proofs.Common.{◌≡◌, ◌==◌, inl, inr, ℕ, ◌+◌, ◌<◌, ◌≤◌, ◌%◌, Bool, true, false, List, [], ◌∷◌, length, replicate, Some, refl, sym, ap, subst, ◌∙◌, arith, length-append}
 use Rattle.std.proofs.lemmas.List.{length-replicate}
 use Rattle.cdr_core.specs.declared.order.Order.{Order}
 use Rattle.cdr_core.specs.Numbers.{padding}
@@ -11,12 +11,11 @@ use Rattle.giop_core.specs.declared.header.MessageKind.{MessageKind}
 use Rattle.giop_core.specs.declared.header.MessageKind.TheVariants as kind
 use Rattle.giop_core.specs.declared.header.Version.{Version}
 use Rattle.giop_core.specs.declared.header.Version.TheVariants.{V10, V11, V12}
-use Rattle.giop_core.specs.declared.request.ReplyWish.{ReplyWish}
 use Rattle.giop_core.specs.Items.{list_value}
 use Rattle.giop_core.specs.Written.{behind_gap, behind_header, body_octets, octets_body, response_expected, zeros}
 use Rattle.giop_core.proofs.OctetsBody.{body_length}
 use Rattle.giop_frames.proofs.Deciding.{test_eq}
-use Rattle.giop_proxy.specs.Placing.{begins_at, contexts_with, end_of, fields_at, may_begin, may_follow, principal_for, reply_for, request_fields, request_for, size_of, wish_in}
+use Rattle.giop_proxy.specs.Placing.{begins_at, contexts_with, end_of, may_begin, may_follow, principal_for, reply_for, request_fields, request_for, size_of, wish_in}
 use Rattle.giop_proxy.specs.PlacingLaws.{PlacedRepliesAreShort, PlacedRequestsAreShort}
 use Rattle.giop_proxy.specs.PlacingPrivate.{begun_at, HasBody}
 use Rattle.giop_proxy.proofs.Choosing.{first_chosen, found, reply_longer, request_longer, Chosen, Longer}

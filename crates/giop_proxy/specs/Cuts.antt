@@ -1,6 +1,6 @@
 -- GIOP 9.4.9: a message of 1.1, cut at given places into a first frame and Fragments. Where it is cut is free: the clause does not
 -- say from where what stands in a Fragment of 1.1 is aligned, so a body that is passed on is cut where it was.
-use Rattle.std.specs.Prelude.{◌≡◌, ℕ, ◌+◌, ◌-◌, ◌*◌, ◌<◌, ◌≤◌, true, List, [], ◌∷◌, ◌++◌, length, take, drop, map, None, Ok, IsOk}
+use Rattle.std.specs.Prelude.{◌≡◌, ℕ, ◌+◌, ◌-◌, ◌*◌, ◌<◌, ◌≤◌, true, List, [], ◌∷◌, length, take, drop, map, None, Ok, IsOk}
 use Rattle.std.specs.List.{flat_map}
 use Rattle.giop_core.specs.declared.header.Header.{Header}
 use Rattle.giop_core.specs.Headers.{header_of}

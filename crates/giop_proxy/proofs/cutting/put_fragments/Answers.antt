@@ -1,5 +1,4 @@
-use Rattle.std.proofs.Common.{List, ℕ, [], true, sym, ◌∙◌, arith, length-drop}
-use Rattle.std.proofs.lemmas.List.{append-nil}
+use Rattle.std.proofs.Common.{[], true, arith, length-drop}
 use Rattle.std.proofs.lemmas.Result.{err_from_is_err_and}
 use Rattle.giop_frames.specs.Cutting.{fragment_of, frame_octets}
 use Rattle.giop_frames.proofs.Chunks.{appended-by, appended-more}

@@ -1,4 +1,4 @@
-use Rattle.std.proofs.Common.{◌≡◌, ◌+◌, ◌<◌, ◌^◌, ◌++◌, [], length, drop}
+use Rattle.std.proofs.Common.{◌≡◌, ◌<◌, ◌^◌, ◌++◌, [], length, drop}
 use Rattle.std.specs.List.{flat_map}
 use Rattle.giop_frames.specs.Cutting.{fragments_of, frame_octets}
 use Rattle.giop_frames.specs.Private.{IsAppended}

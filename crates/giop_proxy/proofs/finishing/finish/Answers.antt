@@ -1,4 +1,4 @@
-use Rattle.std.proofs.Common.{◌≡◌, ◌+◌, ◌-◌, length, arith}
+use Rattle.std.proofs.Common.{◌-◌, arith}
 use Rattle.std.proofs.lemmas.Result.{err_from_is_err_and}
 use Rattle.giop_proxy.proofs.Ending.{ended-kept, long-at, ok-at, size-at}
 use Rattle.giop_proxy.proofs.finishing.finish.Goals as goal

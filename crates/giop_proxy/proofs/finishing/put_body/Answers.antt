@@ -1,6 +1,4 @@
 use Rattle.std.proofs.Common.{sym, ◌∙◌}
-use Rattle.std.proofs.lemmas.Result.{err_from_is_err_and}
-use Rattle.cdr_core.proofs.Appending.{keeps_all}
 use Rattle.giop_proxy.proofs.Ending.{none-put, put-err, put-ok}
 use Rattle.giop_proxy.proofs.finishing.put_body.Goals as goal
 

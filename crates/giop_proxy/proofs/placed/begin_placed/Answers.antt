@@ -1,6 +1,5 @@
-use Rattle.std.proofs.Common.{◌≡◌, ◌∙◌, List, ℕ, Bool, true, false, Ok, Err, sym, subst, arith}
+use Rattle.std.proofs.Common.{◌∙◌, List, ℕ, Bool, true, false, Ok, Err, sym, subst, arith}
 use Rattle.std.proofs.lemmas.Result.{err_from_is_err_and}
-use Rattle.giop_proxy.specs.Placing.{refused_as}
 use Rattle.giop_proxy.specs.PlacingPrivate.{fields_for, kind_of, Begins}
 use Rattle.giop_proxy.proofs.Appended.{back-again, begun-second, fields_longer, first-fails, second-fails}
 use Rattle.giop_proxy.proofs.placed.begin_placed.Goals as goal

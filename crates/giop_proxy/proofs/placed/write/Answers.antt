@@ -1,4 +1,4 @@
-use Rattle.std.proofs.Common.{arith, rules}
+use Rattle.std.proofs.Common.{arith}
 use Rattle.giop_proxy.specs.Placing.{fields_at}
 use Rattle.giop_proxy.specs.PlacingPrivate.{fields_for, kind_of}
 use Rattle.giop_proxy.proofs.Appended.{back-appends, back-same}
