@@ -28,7 +28,8 @@ const READERS: Duration = Duration::from_secs(1);
 const LOG: i64 = 1 << 24;
 
 const FIND: &str = "SELECT status, little, place,
-        coalesce(body, (SELECT octets FROM outcome_body WHERE outcome_body.id = outcome.id)), life, cuts
+        coalesce(body, (SELECT octets FROM outcome_body WHERE outcome_body.id = outcome.id)), life,
+        cuts
     FROM outcome WHERE client = ?1 AND retention = ?2";
 const LEAST: &str = "SELECT moment FROM forgotten";
 const BEGIN: &str =

@@ -143,6 +143,18 @@ async fn a_guard_goes_on_with_what_servers_kept() {
     assert_eq!(balance, Ok(7));
 }
 
+/// A file of version 3 had no place for cuts.
+#[tokio::test]
+async fn a_file_gets_a_place_for_cuts() {
+    let (file, before) = made("uncut", THIRD);
+    before.close().unwrap();
+    for life in ["new\nfinish c 2 cut | cut", "cut of another"] {
+        let mut taker = over_file(&file).await;
+        taker.table(&format!("begin a 1 100 | one of another\nbegin c 2 100 | {life}")).await;
+        taker.store.close().await;
+    }
+}
+
 #[tokio::test]
 async fn closing_writes_all_to_the_file() {
     let (file, copy) = (file("closing"), file("closing-copy"));

@@ -352,9 +352,11 @@ async fn postgres_of_a_version_before_is_made_one_of_this() {
         begin b 1 11    | new
         undo b 1        |
     ";
-    for _ in 0..2 {
+    // (it had no place for cuts)
+    for life in ["new\nfinish c 2 cut | cut", "cut of another"] {
         let mut guard = server.guard(LONG).await;
         guard.table(steps).await;
+        guard.table(&format!("begin c 2 100 | {life}")).await;
         guard.store.close().await;
     }
     let drawn =
