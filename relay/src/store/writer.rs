@@ -5,7 +5,8 @@ use super::{Begun, Error, Key, Outcome};
 use crate::mark::Mark;
 use crate::metrics::{self, metrics, Takes, Waits};
 use crate::wire::locked;
-use std::collections::{HashMap, HashSet, VecDeque};
+use crate::workers::here;
+use std::collections::{BTreeMap, HashMap, HashSet, VecDeque};
 use std::future::Future;
 use std::iter;
 use std::mem;
@@ -13,7 +14,7 @@ use std::sync::atomic::{AtomicBool, Ordering};
 use std::sync::{Arc, Mutex};
 use std::thread;
 use std::time::Duration;
-use tokio::runtime::Builder;
+use tokio::runtime::{Builder, Handle};
 use tokio::select;
 use tokio::sync::mpsc::{unbounded_channel, UnboundedReceiver, UnboundedSender};
 use tokio::sync::oneshot;
@@ -77,10 +78,50 @@ pub trait Database {
 /// What a caller is given of its step.
 type Given = Result<(Done, Option<Held>), Error>;
 
+/// Who asks for a step, and the thread that it is of.
+struct Caller {
+    told: oneshot::Sender<Given>,
+    home: usize,
+    tasks: Handle,
+}
+
+/// What a caller is told.
+type Told = (oneshot::Sender<Given>, Given);
+
+/// What callers are told of one transaction, by their threads.
+#[derive(Default)]
+struct Tidings(BTreeMap<usize, (Handle, Vec<Told>)>);
+
+impl Caller {
+    /// One of this thread; and how it is told.
+    fn here() -> (Caller, oneshot::Receiver<Given>) {
+        let (told, answer) = oneshot::channel();
+        (Caller { told, home: here(), tasks: Handle::current() }, answer)
+    }
+}
+
+impl Tidings {
+    /// What one is to be told.
+    fn add(&mut self, caller: Caller, given: Given) {
+        let Caller { told, home, tasks } = caller;
+        self.0.entry(home).or_insert_with(|| (tasks, Vec::new())).1.push((told, given));
+    }
+
+    /// Tells all of it. A thread is woken once for all of its callers.
+    fn tell(self) {
+        for (tasks, given) in self.0.into_values() {
+            tasks.spawn(async move {
+                // (who is gone drops what is held, and that undoes it)
+                given.into_iter().for_each(|(told, given)| _ = told.send(given));
+            });
+        }
+    }
+}
+
 /// A step that waits, and who is told of it.
 struct Job {
     step: Step,
-    caller: Option<oneshot::Sender<Given>>,
+    caller: Option<Caller>,
     /// Its time, until it is taken for the first time; and that it waits for what another has begun.
     takes: Option<Takes>,
     waits: Option<Waits>,
@@ -100,14 +141,13 @@ impl Step {
 }
 
 impl Job {
-    fn new(step: Step, caller: Option<oneshot::Sender<Given>>) -> Job {
+    fn new(step: Step, caller: Option<Caller>) -> Job {
         Job { takes: Some(metrics().takes(step.counted())), step, caller, waits: None }
     }
 
     fn tell(self, given: Given) {
         if let Some(caller) = self.caller {
-            // (who is gone drops what is held, and that undoes it)
-            _ = caller.send(given);
+            _ = caller.told.send(given);
         }
     }
 }
@@ -143,7 +183,7 @@ struct Known {
 
 impl Steps {
     async fn ask(&self, step: Step) -> Given {
-        let (caller, answer) = oneshot::channel();
+        let (caller, answer) = Caller::here();
         let closed = || Error::Away("the store is closed".into());
         self.jobs.send(Job::new(step, Some(caller))).map_err(|_| closed())?;
         answer.await.map_err(|_| closed())?
@@ -253,6 +293,8 @@ struct Writer<D> {
     waiting: HashMap<Key, Vec<Job>>,
     /// What callers of this guard have begun.
     begun: HashSet<Key>,
+    /// What is told once all that a transaction took is known.
+    tidings: Tidings,
     /// Why it can't be written, and when it is tried again.
     trouble: Option<Error>,
     next: Instant,
@@ -274,6 +316,7 @@ impl<D: Database> Writer<D> {
             queue: VecDeque::new(),
             waiting: HashMap::new(),
             begun: HashSet::new(),
+            tidings: Tidings::default(),
             trouble: None,
             next: Instant::now(),
             all: 0,
@@ -367,6 +410,7 @@ impl<D: Database> Writer<D> {
                 for (job, done) in batch.into_iter().zip(dones) {
                     self.done(job, done);
                 }
+                mem::take(&mut self.tidings).tell();
             }
             Err(why) => {
                 if self.trouble.as_ref() != Some(&why) {
@@ -411,7 +455,9 @@ impl<D: Database> Writer<D> {
             (Step::Close, _) => return self.closes(job),
             _ => {}
         }
-        job.tell(Ok((done, held)));
+        if let Some(caller) = job.caller {
+            self.tidings.add(caller, Ok((done, held)));
+        }
     }
 
     /// This is the last step.
