@@ -306,9 +306,11 @@ impl Class {
     fn best(&self, most: usize) -> Option<(Arc<Line>, bool)> {
         let (lines, home, share) = (locked(&self.lines), here(), most.div_ceil(busy()));
         let open = || lines.iter().filter(|line| line.load().is_some());
-        let of = |home| open().filter(move |line| line.home == home);
-        if let Some((load, line)) = least(of(home)) {
-            let is_more = load > 0 && open().count() < most && of(home).count() < share;
+        // (of those of other threads it is seldom looked how many wait, which changes all the time)
+        let all_of = |home| lines.iter().filter(move |line| line.home == home);
+        let of = |home| all_of(home).filter(|line| line.load().is_some());
+        if let Some((load, line)) = least(all_of(home)) {
+            let is_more = load > 0 && of(home).count() < share && open().count() < most;
             return Some((line.clone(), is_more));
         }
         let Some((load, line)) = least(open()) else {
@@ -401,7 +403,7 @@ impl Ear<'_> {
                 read = half.read(&mut room) => {
                     let size = size_of(read, is_heard)?;
                     (heard, is_heard) = (Instant::now(), true);
-                    self.takes(&room[..size])?;
+                    self.takes(&room[..size], heard)?;
                 }
                 () = &mut left => {
                     left.set(self.line.left.notified());
@@ -416,8 +418,8 @@ impl Ear<'_> {
         }
     }
 
-    /// Takes octets that came: it ends where it answers an error.
-    fn takes(&mut self, mut octets: &[u8]) -> End {
+    /// Takes octets that came just now: it ends where it answers an error.
+    fn takes(&mut self, mut octets: &[u8], now: Instant) -> End {
         let (size, mut has_ended) = (octets.len(), false);
         while !octets.is_empty() {
             let taken = self.frames.take(&mut octets);
@@ -425,7 +427,7 @@ impl Ear<'_> {
             has_ended |= !self.frames.is_amid();
         }
         let is_amid = self.frames.is_amid();
-        if self.watch.hears(Instant::now(), size, has_ended, is_amid) {
+        if self.watch.hears(now, size, has_ended, is_amid) {
             self.line.turns(State::Asked, State::Open);
         }
         self.class.silences.store(0, Ordering::Relaxed);
