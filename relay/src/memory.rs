@@ -6,8 +6,9 @@
 //! it is not.
 
 use crate::metrics::metrics;
+use crate::workers::{group, Apart};
 use futures_util::future::AbortHandle;
-use std::sync::atomic::{AtomicBool, AtomicUsize, Ordering};
+use std::sync::atomic::{AtomicBool, AtomicI64, AtomicUsize, Ordering};
 use std::sync::{Arc, OnceLock};
 use std::time::Duration;
 use tokio::select;
@@ -31,7 +32,8 @@ pub struct Memory {
     most: AtomicUsize,
     /// How many octets there may be at most, once enough is given back.
     wanted: AtomicUsize,
-    held: AtomicUsize,
+    /// By the threads that hold it, or give it back.
+    held: Apart<AtomicI64>,
 }
 
 /// What is held for one peer, and what of that is due to it.
@@ -64,7 +66,9 @@ impl Memory {
     #[must_use]
     pub fn new(most: usize) -> Arc<Memory> {
         let (most, wanted) = (AtomicUsize::new(most), AtomicUsize::new(most));
-        Arc::new(Memory { most, wanted, held: AtomicUsize::new(0) })
+        let memory = Arc::new(Memory { most, wanted, held: Apart::new(AtomicI64::default) });
+        metrics().tells_of(&memory);
+        memory
     }
 
     /// So many from now on; or fewer once as much is free as is held, so that nobody is suddenly over.
@@ -77,7 +81,7 @@ impl Memory {
     fn settles(&self) {
         let wanted = self.wanted.load(Ordering::Relaxed);
         if self.most() > wanted {
-            let enough = self.held.load(Ordering::Relaxed).saturating_mul(2);
+            let enough = self.held().saturating_mul(2);
             self.most.fetch_min(wanted.max(enough), Ordering::Relaxed);
         }
     }
@@ -94,8 +98,21 @@ impl Memory {
         self.most.load(Ordering::Relaxed)
     }
 
+    /// How many octets are held.
+    #[must_use]
+    pub fn held(&self) -> usize {
+        // (what another thread gives back may be seen before it is seen that it was held)
+        let sum = self.held.all().map(|held| held.load(Ordering::Relaxed)).sum::<i64>();
+        usize::try_from(sum).unwrap_or(0)
+    }
+
+    /// Some more are held, or fewer.
+    fn add(&self, size: i64) {
+        self.held.of(group()).fetch_add(size, Ordering::Relaxed);
+    }
+
     fn free(&self) -> usize {
-        self.most().saturating_sub(self.held.load(Ordering::Relaxed))
+        self.most().saturating_sub(self.held())
     }
 
     /// How much more one may hold who holds so much.
@@ -174,14 +191,12 @@ impl Account {
 
     fn more(&self, size: usize) {
         self.held.fetch_add(size, Ordering::Relaxed);
-        self.memory.held.fetch_add(size, Ordering::Relaxed);
-        metrics().memory.add(i64::try_from(size).unwrap_or(0));
+        self.memory.add(i64::try_from(size).unwrap_or(i64::MAX));
     }
 
     fn fewer(&self, size: usize) {
         self.held.fetch_sub(size, Ordering::Relaxed);
-        self.memory.held.fetch_sub(size, Ordering::Relaxed);
-        metrics().memory.sub(i64::try_from(size).unwrap_or(0));
+        self.memory.add(-i64::try_from(size).unwrap_or(i64::MAX));
         self.memory.settles();
         self.less.notify_one();
     }

@@ -1,15 +1,18 @@
 //! Counters, as Prometheus reads them, and whether this relay is ready, by HTTP.
 
+use crate::memory::Memory;
+use crate::wire::locked;
+use crate::workers::{group, Apart};
 use prometheus::core::Collector;
+use prometheus::local::LocalHistogram;
 use prometheus::{
     Gauge, Histogram, HistogramOpts, HistogramVec, IntCounter, IntCounterVec, IntGauge, Opts,
     Registry, TextEncoder,
 };
-use std::collections::BTreeMap;
 use std::future::Future;
 use std::io;
 use std::pin::Pin;
-use std::sync::{Arc, Mutex, OnceLock, PoisonError};
+use std::sync::{Arc, Mutex, OnceLock, Weak};
 use std::time::{Duration, Instant};
 use tokio::io::{AsyncReadExt, AsyncWriteExt};
 use tokio::net::{TcpListener, TcpStream};
@@ -49,7 +52,7 @@ pub struct Metrics {
     pub ended: IntCounterVec,
     pub lines: IntGauge,
     /// Octets that are held for peers.
-    pub memory: IntGauge,
+    memory: IntGauge,
     pub lines_ended: IntCounterVec,
     /// Connections to servers or guards on which nothing came any more.
     pub lines_silent: IntCounter,
@@ -60,18 +63,23 @@ pub struct Metrics {
     waiting: IntGauge,
     parked: IntGauge,
     oldest: Gauge,
-    /// Since when what is under way is, in the order in which it came.
-    since: Mutex<(u64, BTreeMap<u64, Instant>)>,
+    since: Apart<Mutex<Since>>,
+    /// What knows how many octets are held.
+    held: Mutex<Weak<Memory>>,
 }
 
-/// Steps of the store, each with the times that it took.
-struct Steps {
-    begin: Histogram,
-    finish: Histogram,
-    undo: Histogram,
-    purge: Histogram,
-    close: Histogram,
+/// Since when something is under way that began on some threads, and which places are free.
+#[derive(Default)]
+struct Since {
+    places: Vec<Option<Instant>>,
+    free: Vec<usize>,
 }
+
+/// The times of steps of the store that ended on some threads, by the steps, until they are given.
+struct Steps(Apart<Mutex<[LocalHistogram; NAMES.len()]>>);
+
+/// What steps are called.
+const NAMES: [&str; 5] = ["begin", "finish", "undo", "purge", "close"];
 
 /// A step of the store.
 #[derive(Clone, Copy, Debug, PartialEq, Eq)]
@@ -83,8 +91,8 @@ pub enum Step {
     Close,
 }
 
-/// A request that is under way, as long as this is there.
-pub struct Parked(u64);
+/// A request that is under way, as long as this is there: its group, and its place there.
+pub struct Parked(usize, usize);
 
 /// A request that waits for its first transmission, as long as this is there.
 pub struct Waits(());
@@ -135,25 +143,18 @@ impl Steps {
     fn of(registry: &Registry) -> Steps {
         let options = options_of("store_step_seconds", "Time of a step of the store", SHORTEST);
         let all = taken(registry, HistogramVec::new(options, &["step"]));
-        let of = |step| all.with_label_values(&[step]);
-        Steps {
-            begin: of("begin"),
-            finish: of("finish"),
-            undo: of("undo"),
-            purge: of("purge"),
-            close: of("close"),
-        }
+        let local = |step| all.with_label_values(&[step]).local();
+        Steps(Apart::new(|| NAMES.map(local).into()))
     }
 
-    /// The times of a step.
-    fn times(&self, step: Step) -> &Histogram {
-        match step {
-            Step::Begin => &self.begin,
-            Step::Finish => &self.finish,
-            Step::Undo => &self.undo,
-            Step::Purge => &self.purge,
-            Step::Close => &self.close,
-        }
+    /// A step has taken so many seconds.
+    fn took(&self, step: Step, seconds: f64) {
+        locked(self.0.of(group()))[step as usize].observe(seconds);
+    }
+
+    /// Has the registry have all.
+    fn give(&self) {
+        self.0.all().for_each(|times| locked(times).iter().for_each(LocalHistogram::flush));
     }
 }
 
@@ -189,20 +190,28 @@ impl Metrics {
             batches: histogram(it, "store_write_steps", "Steps of a transaction", 1.0),
             parked: gauge(it, "parked", "Requests under way"),
             oldest: taken(it, Gauge::new(name_of(oldest.0), oldest.1)),
-            since: Mutex::default(),
+            since: Apart::new(Mutex::default),
+            held: Mutex::default(),
             registry,
         }
+    }
+
+    /// From now on what is held there is told.
+    pub fn tells_of(&self, memory: &Arc<Memory>) {
+        *locked(&self.held) = Arc::downgrade(memory);
     }
 
     /// Counts a request as under way, until what is answered is dropped.
     #[must_use]
     pub fn park(&self) -> Parked {
-        let mut since = self.since.lock().unwrap_or_else(PoisonError::into_inner);
-        since.0 += 1;
-        let number = since.0;
-        since.1.insert(number, Instant::now());
-        self.parked.inc();
-        Parked(number)
+        let (group, now) = (group(), Instant::now());
+        let Since { places, free } = &mut *locked(self.since.of(group));
+        let place = free.pop().unwrap_or(places.len());
+        if place == places.len() {
+            places.push(None);
+        }
+        places[place] = Some(now);
+        Parked(group, place)
     }
 
     /// Counts a request as one that waits for its first transmission, until what is answered is
@@ -219,21 +228,33 @@ impl Metrics {
         Takes(step, Instant::now())
     }
 
+    /// Since when what is under way is.
+    fn all_since(&self) -> Vec<Instant> {
+        let of = |since: &Mutex<Since>| {
+            locked(since).places.iter().flatten().copied().collect::<Vec<_>>()
+        };
+        self.since.all().flat_map(of).collect()
+    }
+
     /// All of it, as Prometheus reads it.
     pub fn text(&self) -> String {
-        let since = self.since.lock().unwrap_or_else(PoisonError::into_inner);
-        let oldest = since.1.values().next().map_or(Duration::ZERO, Instant::elapsed);
-        drop(since);
+        let since = self.all_since();
+        self.parked.set(i64::try_from(since.len()).unwrap_or(0));
+        let oldest = since.iter().min().map_or(Duration::ZERO, Instant::elapsed);
         self.oldest.set(oldest.as_secs_f64());
+        self.steps.give();
+        let held = locked(&self.held).upgrade().map_or(0, |memory| memory.held());
+        self.memory.set(i64::try_from(held).unwrap_or(i64::MAX));
         TextEncoder::new().encode_to_string(&self.registry.gather()).unwrap_or_default()
     }
 }
 
 impl Drop for Parked {
     fn drop(&mut self) {
-        let all = metrics();
-        all.since.lock().unwrap_or_else(PoisonError::into_inner).1.remove(&self.0);
-        all.parked.dec();
+        let Parked(group, place) = *self;
+        let Since { places, free } = &mut *locked(metrics().since.of(group));
+        places[place] = None;
+        free.push(place);
     }
 }
 
@@ -245,7 +266,7 @@ impl Drop for Waits {
 
 impl Drop for Takes {
     fn drop(&mut self) {
-        metrics().steps.times(self.0).observe(self.1.elapsed().as_secs_f64());
+        metrics().steps.took(self.0, self.1.elapsed().as_secs_f64());
     }
 }
 

@@ -19,6 +19,39 @@ pub fn here() -> usize {
     HERE.get()
 }
 
+/// In how many groups threads are at most.
+const GROUPS: usize = 16;
+
+/// The group of this thread.
+#[must_use]
+pub fn group() -> usize {
+    here() % GROUPS
+}
+
+/// What each group of threads has for itself, so that those of others are not kept waiting.
+pub struct Apart<T>([Own<T>; GROUPS]);
+
+/// (No two share what processors hand one another.)
+#[repr(align(128))]
+struct Own<T>(T);
+
+impl<T> Apart<T> {
+    /// What each group has is made in turn.
+    pub fn new(mut make: impl FnMut() -> T) -> Apart<T> {
+        Apart(std::array::from_fn(|_| Own(make())))
+    }
+
+    /// That of a group.
+    pub fn of(&self, group: usize) -> &T {
+        &self.0[group].0
+    }
+
+    /// Those of all groups.
+    pub fn all(&self) -> impl Iterator<Item = &T> {
+        self.0.iter().map(|own| &own.0)
+    }
+}
+
 /// How many threads have a connection of a client.
 static BUSY: AtomicUsize = AtomicUsize::new(0);
 
