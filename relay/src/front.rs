@@ -423,7 +423,7 @@ impl<R: Role> Talk<R> {
             peer,
             sets: None,
             cancels: Cancels::default(),
-            under_way: Arc::default(),
+            under_way: Tally::within(&front.under_way),
             due,
             heard: Instant::now(),
             held,
@@ -617,7 +617,7 @@ impl<R: Role> Talk<R> {
 
     /// Has a request performed, once there is room for one more.
     async fn performs(&mut self, request: Box<Request>, id: u32) {
-        let is_one = (self.under_way.one(), self.front.under_way.one());
+        let is_one = self.under_way.one();
         let is_by_client = R::IS_BY_CLIENT && request.ft.is_some();
         let place = if is_by_client { None } else { self.peer.share.place().await };
         let cancelled = request.ft.is_none().then(|| Cancelled::of(&self.cancels, id));

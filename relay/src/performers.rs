@@ -23,9 +23,9 @@ pub struct Job {
     /// Where its reply is due.
     pub due: mpsc::Sender<Owed>,
     /// Its place among those under way, where that is not by its client id; and that it is one of
-    /// its connection, and of all.
+    /// its connection.
     pub place: Option<Place>,
-    pub is_one: (One, One),
+    pub is_one: One,
 }
 
 impl Job {

@@ -254,12 +254,20 @@ impl Given {
 pub struct Tally {
     count: AtomicUsize,
     none: Notify,
+    /// That it is itself one of another.
+    _one: Option<One>,
 }
 
 /// One of them, as long as this is there.
 pub struct One(Arc<Tally>);
 
 impl Tally {
+    /// One that is itself one of another, as long as it is there or any of its own are.
+    #[must_use]
+    pub fn within(all: &Arc<Tally>) -> Arc<Tally> {
+        Arc::new(Tally { _one: Some(all.one()), ..Tally::default() })
+    }
+
     /// One more.
     #[must_use]
     pub fn one(self: &Arc<Self>) -> One {
@@ -409,6 +417,18 @@ mod tests {
         drop(one);
         assert!(poll!(&mut ends).is_pending() && !tally.is_none());
         drop(two);
+        ends.await;
+    }
+
+    #[tokio::test]
+    async fn what_is_within_another_is_waited_for_there() {
+        let all = Arc::<Tally>::default();
+        let within = Tally::within(&all);
+        let one = within.one();
+        drop(within);
+        let mut ends = pin!(all.ends());
+        assert!(poll!(&mut ends).is_pending());
+        drop(one);
         ends.await;
     }
 }
