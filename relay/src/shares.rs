@@ -26,7 +26,7 @@ const NAMES: usize = 1024;
 /// How many are under way of somebody: it changes where the shares are locked.
 type Count = Arc<AtomicUsize>;
 
-fn of(count: &Count) -> usize {
+fn of(count: &AtomicUsize) -> usize {
     count.load(Ordering::Relaxed)
 }
 
@@ -57,17 +57,24 @@ impl<K: Hash + Eq> Counts<K> {
     }
 }
 
+/// Whose a connection is, and how many are under way of it.
+struct Connection {
+    shares: Arc<Shares>,
+    address: Count,
+    count: AtomicUsize,
+}
+
 /// Whose a request is.
 #[derive(Clone)]
 struct Owner {
-    address: Count,
-    connection: Count,
+    connection: Arc<Connection>,
     client: Option<Count>,
 }
 
 impl Owner {
-    fn counts(&self) -> impl Iterator<Item = &Count> {
-        [&self.address, &self.connection].into_iter().chain(&self.client)
+    fn counts(&self) -> impl Iterator<Item = &AtomicUsize> {
+        let Connection { address, count, .. } = &*self.connection;
+        [&**address, count].into_iter().chain(self.client.as_deref())
     }
 }
 
@@ -100,16 +107,10 @@ pub struct Shares {
 }
 
 /// A request that is under way, as long as this is there.
-pub struct Place {
-    shares: Arc<Shares>,
-    owner: Owner,
-}
+pub struct Place(Owner);
 
 /// What a connection has of the places.
-pub struct Share {
-    shares: Arc<Shares>,
-    owner: Owner,
-}
+pub struct Share(Arc<Connection>);
 
 impl Shares {
     #[must_use]
@@ -120,11 +121,11 @@ impl Shares {
     }
 
     /// So many may be under way from now on. (Who waits for a place looks when one is given back.)
-    pub fn becomes(self: &Arc<Self>, most: Most) {
+    pub fn becomes(&self, most: Most) {
         let given = {
             let mut state = locked(&self.state);
             state.most = most;
-            self.gives(&mut state)
+            Shares::gives(&mut state)
         };
         tell(given);
     }
@@ -133,8 +134,7 @@ impl Shares {
     #[must_use]
     pub fn share(self: &Arc<Self>, address: IpAddr) -> Share {
         let address = locked(&self.state).addresses.of(&address);
-        let owner = Owner { address, connection: Count::default(), client: None };
-        Share { shares: self.clone(), owner }
+        Share(Connection { shares: self.clone(), address, count: AtomicUsize::new(0) }.into())
     }
 
     /// Whether there is a place for one more.
@@ -142,47 +142,47 @@ impl Shares {
         let free = most.of_all.saturating_sub(taken);
         let is_left = match &owner.client {
             Some(client) => of(client) < most.of_client,
-            None => of(&owner.connection) < most.of_connection,
+            None => of(&owner.connection.count) < most.of_connection,
         };
-        let has_none = owner.client.as_ref().map_or(of(&owner.connection), of) == 0;
+        let has_none = of(owner.client.as_deref().unwrap_or(&owner.connection.count)) == 0;
         let (all, sum) = (most.of_all, owner.counts().map(of).sum::<usize>());
         let (part, whole) = if has_none { (1, 1) } else { (free, all) };
         is_left && sum.saturating_mul(whole) < PART.saturating_mul(free).saturating_mul(part)
     }
 
-    /// Takes a place, where there is one.
-    fn take(self: &Arc<Self>, state: &mut State, owner: &Owner) -> Option<Place> {
-        if !Shares::may(owner, state.most, state.taken) {
-            return None;
+    /// Takes a place, where there is one; else the owner is given back.
+    fn take(state: &mut State, owner: Owner) -> Result<Place, Owner> {
+        if !Shares::may(&owner, state.most, state.taken) {
+            return Err(owner);
         }
         state.taken += 1;
         for count in owner.counts() {
             count.fetch_add(1, Ordering::Relaxed);
         }
-        Some(Place { shares: self.clone(), owner: owner.clone() })
+        Ok(Place(owner))
     }
 
     /// Gives a place back, and answers who gets one by that.
-    fn leave(self: &Arc<Self>, owner: &Owner) -> Turns {
+    fn leave(&self, owner: &Owner) -> Turns {
         let mut state = locked(&self.state);
         state.taken -= 1;
         for count in owner.counts() {
             count.fetch_sub(1, Ordering::Relaxed);
         }
-        self.gives(&mut state)
+        Shares::gives(&mut state)
     }
 
     /// Looks who of those that wait first gets a place.
-    fn gives(self: &Arc<Self>, state: &mut State) -> Turns {
+    fn gives(state: &mut State) -> Turns {
         let mut given = Vec::new();
         for _ in 0..state.waiting.len().min(LOOK) {
             let Some((owner, told)) = state.waiting.pop_front() else { break };
             if told.is_closed() {
                 continue;
             }
-            match self.take(state, &owner) {
-                Some(place) => given.push((told, place)),
-                None => state.waiting.push_back((owner, told)),
+            match Shares::take(state, owner) {
+                Ok(place) => given.push((told, place)),
+                Err(owner) => state.waiting.push_back((owner, told)),
             }
         }
         given
@@ -198,14 +198,14 @@ fn tell(turns: Turns) {
 
 impl Drop for Place {
     fn drop(&mut self) {
-        tell(self.shares.leave(&self.owner));
+        tell(self.0.connection.shares.leave(&self.0));
     }
 }
 
 impl Share {
     /// A place for a request of this connection, once there is one.
     pub async fn place(&self) -> Option<Place> {
-        let asked = self.asks(&mut locked(&self.shares.state), self.owner.clone());
+        let asked = self.asks(&mut locked(&self.0.shares.state), None);
         asked.given().await
     }
 
@@ -213,24 +213,26 @@ impl Share {
     /// too many wait.
     pub async fn place_of(&self, client: &[u8]) -> Option<Place> {
         let asked = {
-            let mut state = locked(&self.shares.state);
+            let mut state = locked(&self.0.shares.state);
             let (most, client) = (state.most, state.clients.of(client));
             if of(&client) >= most.of_client || state.waiting.len() >= most.of_all {
                 return None;
             }
-            self.asks(&mut state, Owner { client: Some(client), ..self.owner.clone() })
+            self.asks(&mut state, Some(client))
         };
         asked.given().await
     }
 
     /// A place, or what tells of one.
-    fn asks(&self, state: &mut State, owner: Owner) -> Given {
-        if let Some(place) = self.shares.take(state, &owner) {
-            return Given::Now(place);
+    fn asks(&self, state: &mut State, client: Option<Count>) -> Given {
+        match Shares::take(state, Owner { connection: self.0.clone(), client }) {
+            Ok(place) => Given::Now(place),
+            Err(owner) => {
+                let (tell, told) = oneshot::channel();
+                state.waiting.push_back((owner, tell));
+                Given::Later(told)
+            }
         }
-        let (tell, told) = oneshot::channel();
-        state.waiting.push_back((owner, tell));
-        Given::Later(told)
     }
 }
 
