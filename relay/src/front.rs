@@ -24,8 +24,9 @@ use futures_util::future::abortable;
 use futures_util::poll;
 use lemonrudder::{write, Cuts, Fault, Limits, LocateStatus, MessageType, Order, Version};
 use std::convert::Infallible;
-use std::future::Future;
+use std::future::{poll_fn, Future};
 use std::io::{self, ErrorKind};
+use std::mem;
 use std::net::{self, SocketAddr};
 use std::pin::pin;
 use std::sync::atomic::{AtomicU64, Ordering};
@@ -440,9 +441,9 @@ impl<R: Role> Talk<R> {
         half: &mut Reading,
         writer: &mut JoinHandle<()>,
     ) -> Result<Infallible, Why> {
-        let (mut stop, stops) = (self.front.stop.clone(), self.front.stop.clone());
+        let (stop, stops) = (self.front.stop.clone(), self.front.stop.clone());
         let (idle, account) = (self.now.limits.idle, self.peer.account.clone());
-        let (mut stopped, mut quiet) = (pin!(stop.changed()), pin!(sleep(idle)));
+        let (mut stopped, mut quiet) = (pin!(ends(stop)), pin!(sleep(idle)));
         let mut room = vec![0; SIZES.0];
         loop {
             // (it changes once, where all is to stop)
@@ -455,7 +456,7 @@ impl<R: Role> Talk<R> {
                 _ = &mut *writer => return Err(self.unwritten()),
                 () = account.less(pause.unwrap_or_default()), if pause.is_some() => continue,
                 read = within(is_stopped.then_some(ARRIVED), reading), if pause.is_none() => read,
-                _ = &mut stopped, if !is_stopped => continue,
+                () = &mut stopped, if !is_stopped => continue,
                 () = &mut quiet => {
                     quiet.as_mut().reset(self.rests(idle)?);
                     continue;
@@ -644,10 +645,28 @@ impl<R: Role> Talk<R> {
     }
 }
 
+/// Ends once all is to stop, for one task: that is told when this is polled first, by what tells all
+/// connections, and has looked then.
+fn ends(mut stop: watch::Receiver<bool>) -> impl Future<Output = ()> {
+    let stops = stop.clone();
+    let (mut told, mut is_told) = (Box::pin(async move { _ = stop.changed().await }), false);
+    poll_fn(move |context| {
+        if !mem::replace(&mut is_told, true) {
+            return told.as_mut().poll(context);
+        }
+        match stops.has_changed() {
+            Ok(false) => Poll::Pending,
+            _ => Poll::Ready(()),
+        }
+    })
+}
+
 /// Reads what has come, of so much at most; or else, of little, what comes.
 async fn reads(half: &mut Reading, room: &mut [u8], most: usize) -> io::Result<usize> {
-    if let Poll::Ready(read) = poll!(pin!(half.read(&mut room[..most]))) {
-        return read;
+    if most > SIZES.0 {
+        if let Poll::Ready(read) = poll!(pin!(half.read(&mut room[..most]))) {
+            return read;
+        }
     }
     half.read(&mut room[..most.min(SIZES.0)]).await
 }
