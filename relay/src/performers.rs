@@ -8,8 +8,10 @@ use crate::timer::Timer;
 use crate::wire::locked;
 use crate::workers::here;
 use lemonrudder::{Version, Wish};
+use std::future::{poll_fn, Future};
 use std::sync::{Arc, Mutex};
-use tokio::sync::{mpsc, oneshot};
+use std::task::{Poll, Waker};
+use tokio::sync::mpsc::{self, error::TrySendError};
 
 /// How many tasks of a thread wait for requests at most.
 const IDLE: usize = 64;
@@ -36,9 +38,39 @@ impl Job {
         if let Some(answer) = answer.filter(|_| wish != Wish::None) {
             let owed = peer.account.owes(answer.reply(version, id));
             drop(answer);
-            _ = due.send(owed).await;
+            // (most have room there at once)
+            if let Err(TrySendError::Full(owed)) = due.try_send(owed) {
+                _ = due.send(owed).await;
+            }
         }
         drop((place, is_one));
+    }
+}
+
+/// Where a task gets requests, one after another, and what wakes it.
+#[derive(Default)]
+struct Hand(Mutex<(Option<Job>, Option<Waker>)>);
+
+impl Hand {
+    /// Has the task perform a request.
+    fn give(&self, job: Job) {
+        let (given, waker) = &mut *locked(&self.0);
+        *given = Some(job);
+        waker.iter().for_each(Waker::wake_by_ref);
+    }
+
+    /// The next request.
+    fn given(&self) -> impl Future<Output = Job> + '_ {
+        poll_fn(|context| {
+            let (given, waker) = &mut *locked(&self.0);
+            if let Some(job) = given.take() {
+                return Poll::Ready(job);
+            }
+            if !waker.as_ref().is_some_and(|it| it.will_wake(context.waker())) {
+                *waker = Some(context.waker().clone());
+            }
+            Poll::Pending
+        })
     }
 }
 
@@ -46,7 +78,7 @@ impl Job {
 pub struct Performers<R> {
     role: Arc<R>,
     /// Those that wait, on each thread.
-    idle: Vec<Mutex<Vec<oneshot::Sender<Job>>>>,
+    idle: Vec<Mutex<Vec<Arc<Hand>>>>,
 }
 
 impl<R: Role> Performers<R> {
@@ -57,35 +89,31 @@ impl<R: Role> Performers<R> {
     }
 
     /// Has a request performed by a task that waits, or by a new one.
-    pub fn perform(self: &Arc<Self>, mut job: Job) {
+    pub fn perform(self: &Arc<Self>, job: Job) {
         let idle = locked(&self.idle[here()]).pop();
-        if let Some(task) = idle {
-            match task.send(job) {
-                Ok(()) => return,
-                Err(same) => job = same,
-            }
+        match idle {
+            Some(task) => task.give(job),
+            None => _ = tokio::spawn(self.clone().performs(job)),
         }
-        tokio::spawn(self.clone().performs(job));
     }
 
     /// Performs a request, and then others, unless enough wait for those.
     async fn performs(self: Arc<Self>, first: Job) {
-        let (mut next, mut timer) = (Ok(first), Timer::new());
-        while let Ok(job) = next {
+        let (mut job, hand, mut timer) = (first, Arc::default(), Timer::new());
+        loop {
             job.perform(&*self.role, &mut timer).await;
-            let Some(given) = self.waits() else { return };
-            next = given.await;
+            if !self.waits(&hand) {
+                return;
+            }
+            job = hand.given().await;
         }
     }
 
-    /// A place among those who wait, if there is one left.
-    fn waits(&self) -> Option<oneshot::Receiver<Job>> {
+    /// Whether there is a place left among those who wait, which is taken then.
+    fn waits(&self, hand: &Arc<Hand>) -> bool {
         let mut idle = locked(&self.idle[here()]);
-        if idle.len() == IDLE {
-            return None;
-        }
-        let (task, given) = oneshot::channel();
-        idle.push(task);
-        Some(given)
+        let is_left = idle.len() < IDLE;
+        idle.extend(is_left.then(|| hand.clone()));
+        is_left
     }
 }
