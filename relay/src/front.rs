@@ -106,6 +106,9 @@ pub trait Role: Send + Sync + 'static {
     /// performed: who waits for that doesn't keep others of its connection waiting.
     const IS_BY_CLIENT: bool;
 
+    /// Whether it looks at what tells that a request is cancelled.
+    const MAY_CANCEL: bool;
+
     /// What is answered, once it is there; none where no reply is wished. The timer is one that may
     /// be used for it.
     fn perform(
@@ -621,7 +624,8 @@ impl<R: Role> Talk<R> {
         let is_one = self.under_way.one();
         let is_by_client = R::IS_BY_CLIENT && request.ft.is_some();
         let place = if is_by_client { None } else { self.peer.share.place().await };
-        let cancelled = request.ft.is_none().then(|| Cancelled::of(&self.cancels, id));
+        let may_cancel = R::MAY_CANCEL && request.ft.is_none();
+        let cancelled = may_cancel.then(|| Cancelled::of(&self.cancels, id));
         let (version, wish) = (request.head.version, request.head.wish);
         let held = self.peer.account.hold(REQUEST + request.head.key.len() + request.body.size());
         let asked = Asked { peer: self.peer.clone(), request, held, cancelled };

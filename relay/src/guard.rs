@@ -146,6 +146,7 @@ enum Sent {
 
 impl Role for Guard {
     const IS_BY_CLIENT: bool = true;
+    const MAY_CANCEL: bool = true;
 
     async fn perform(&self, mut asked: Asked, timer: &mut Timer) -> Option<Answer> {
         let _parked = metrics().park();

@@ -200,6 +200,7 @@ pub struct Retry {
 
 impl Role for Retry {
     const IS_BY_CLIENT: bool = false;
+    const MAY_CANCEL: bool = false;
 
     async fn perform(&self, asked: Asked, timer: &mut Timer) -> Option<Answer> {
         metrics().free.inc();
