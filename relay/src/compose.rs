@@ -132,6 +132,22 @@ pub fn reply(
     Some(cut(version, reply, body))
 }
 
+/// What FT_REQUEST says (FT 23.2.7): an encapsulation of a client id, a number and an expiration. None,
+/// where the id has a NUL.
+pub fn ft_request(order: Order, client: &[u8], number: i32, expiration: u64) -> Option<Vec<u8>> {
+    let mut octets = Vec::with_capacity(client.len() + ROOM);
+    octets.push(u8::from(order == Order::Little));
+    let mut out = Out { order, octets };
+    out.string(client)?;
+    out.ulong(u32::from_ne_bytes(number.to_ne_bytes()));
+    out.octets.resize(out.octets.len().next_multiple_of(8), 0);
+    out.octets.extend_from_slice(&match order {
+        Order::Big => expiration.to_be_bytes(),
+        Order::Little => expiration.to_le_bytes(),
+    });
+    Some(out.octets)
+}
+
 /// The header of a message that has a body behind it, and at most [`LONGEST`] octets. It is written
 /// without a context that says nothing, or with one of so many octets.
 fn moved(
@@ -233,7 +249,7 @@ fn flags_of(version: Version, wish: Wish) -> u8 {
 #[cfg(test)]
 mod tests {
     use super::*;
-    use lemonrudder::{Assembler, Limits, MessageType};
+    use lemonrudder::{write, Assembler, FtRequest, Limits, MessageType, Moment};
 
     const VERSIONS: [Version; 3] = [Version::V10, Version::V11, Version::V12];
     const ORDERS: [Order; 2] = [Order::Big, Order::Little];
@@ -313,6 +329,23 @@ mod tests {
                 &body,
                 &none
             ));
+        }
+    }
+
+    #[test]
+    fn ft_request_is_what_the_standard_says() {
+        let big = b"\0\0\0\0\0\0\0\x02A\0\0\0\xff\xff\xff\xfe\x01\0\0\0\0\0\0\x02";
+        let moment = 0x0100_0000_0000_0002;
+        assert_eq!(ft_request(Order::Big, b"A", -2, moment).unwrap(), big);
+        assert_eq!(ft_request(Order::Big, b"A\0", -2, moment), None);
+        for size in 0..9 {
+            let client = vec![b'c'; size];
+            let (client_id, retention_id) = (&client[..], 7);
+            let said = FtRequest { client_id, retention_id, expiration: Moment(moment) };
+            for order in ORDERS {
+                let made = ft_request(order, &client, 7, moment);
+                assert_eq!(made, Some(write::ft_request(order, &said).unwrap()));
+            }
         }
     }
 

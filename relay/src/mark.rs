@@ -46,8 +46,9 @@ impl Mark {
             && (is_later || (other.life, other.begun) == (self.life, self.begun))
     }
 
-    fn octets(&self) -> Vec<u8> {
-        [&self.store[..], &self.life.to_be_bytes(), &self.begun].concat()
+    /// Its octets, behind others.
+    fn behind(&self, octets: &[u8]) -> Vec<u8> {
+        [octets, &self.store, &self.life.to_be_bytes(), &self.begun].concat()
     }
 
     fn of(octets: &[u8]) -> Option<Mark> {
@@ -81,7 +82,7 @@ impl Meant {
     /// The context that says so for a mark, or asks for it.
     #[must_use]
     pub fn said(mark: Option<&Mark>) -> (u32, Vec<u8>) {
-        (STORE, [vec![0], mark.map(Mark::octets).unwrap_or_default()].concat())
+        (STORE, mark.map_or_else(|| vec![0], |mark| mark.behind(&[0])))
     }
 
     /// Whether a guard whose store has a mark may begin it.
@@ -115,7 +116,7 @@ impl Told {
     /// The context that says so.
     #[must_use]
     pub fn said(&self) -> (u32, Vec<u8>) {
-        (STORE, [vec![0, u8::from(self.is_void)], self.mark.octets()].concat())
+        (STORE, self.mark.behind(&[0, u8::from(self.is_void)]))
     }
 }
 

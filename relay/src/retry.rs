@@ -6,7 +6,7 @@
 //! again after each loss, on any connection to any guard of the store to which it went first, with the
 //! same key and the same expiration.
 
-use crate::compose::{Body, Head, STORE};
+use crate::compose::{self, Body, Head, STORE};
 use crate::forward::{is_forward, Answer, Request, FT_REQUEST, PROFILES};
 use crate::front::{self, Asked, Peer, Role};
 use crate::guard::DECLINED;
@@ -25,9 +25,10 @@ use crate::upstream::Upstream;
 use crate::wire::{self, shown};
 use futures_util::future::join_all;
 use lemonrudder::cdr::Reader;
-use lemonrudder::{write, Completed, Error, FtRequest, Ior, Moment, Status, Wish};
+use lemonrudder::{Completed, Error, Ior, Moment, Status, Wish};
 use std::fmt::Write;
 use std::io::{self, Read};
+use std::mem;
 use std::net::IpAddr;
 use std::sync::{Arc, Mutex, PoisonError};
 use std::time::Duration;
@@ -127,11 +128,11 @@ impl Keys {
     /// The next key. Its client id is that of a peer, by its number here: so the share that a guard
     /// has for a client id is that of one peer.
     fn next(&self, peer: u64) -> Key {
+        let peer = peer.to_string();
         let mut last = self.last.lock().unwrap_or_else(PoisonError::into_inner);
         follow(&mut last, || fresh(&self.prefix));
-        let mut key = last.clone();
-        key.client.extend(format!(".{peer}").into_bytes());
-        key
+        let client = [&last.client[..], b".", peer.as_bytes()].concat();
+        Key { client, number: last.number }
     }
 }
 
@@ -142,8 +143,8 @@ struct Call {
     is_ours: bool,
     head: Head,
     body: Arc<Body>,
-    /// The key of the object, as the client asked.
-    object: Vec<u8>,
+    /// The key of the object, as the client asked, where it was led to another.
+    object: Option<Vec<u8>>,
     ends: Instant,
     /// How many of its transmissions may have acted, or may act yet.
     loose: u32,
@@ -253,14 +254,13 @@ impl Retry {
                 (ft.key, ft.expiration, at + left.min(timeout))
             }
         };
-        let (client_id, retention_id) = (&key.client[..], key.number);
-        let said = FtRequest { client_id, retention_id, expiration };
-        head.contexts.push((FT_REQUEST, write::ft_request(head.order, &said)?));
+        let said = compose::ft_request(head.order, &key.client, key.number, expiration.0);
+        head.contexts.push((FT_REQUEST, said.ok_or(Error::Range)?));
         if head.wish == Wish::None {
             head.wish = Wish::Full;
         }
-        let object = head.key.clone();
         let (loose, store, transmissions, led, hops) = (0, None, 0, None, 0);
+        let object = None;
         Ok(Call { key, is_ours, head, body, object, ends, loose, store, transmissions, led, hops })
     }
 
@@ -289,7 +289,9 @@ impl Retry {
             match next {
                 Next::Done(answer) => return Ok(answer),
                 Next::At(index, object) => {
-                    (call.led, call.head.key) = (index, object);
+                    let asked = mem::replace(&mut call.head.key, object);
+                    call.object.get_or_insert(asked);
+                    call.led = index;
                     call.hops += 1;
                 }
                 Next::Again => {
@@ -304,19 +306,15 @@ impl Retry {
     /// reached, of those that may know of it; once there is one. None where all can be reached, and
     /// none of them may.
     async fn guard_of(&self, call: &mut Call) -> Option<Arc<Upstream>> {
+        // (most find one at once, and need not be told)
+        if let Some(guard) = self.serves(call) {
+            return Some(guard);
+        }
         let mut ups = self.ups.clone();
         loop {
             ups.borrow_and_update();
-            let serves =
-                |guard: &&Arc<Upstream>| guard.is_up() && guard.may_know(call.store.as_ref());
-            let led = call.led.and_then(|index| self.guards.get(index)).filter(serves);
-            if let Some(guard) = led.or_else(|| self.guards.iter().find(serves)) {
-                let is_led = led.is_some();
-                if !is_led && call.led.take().is_some() {
-                    // (who led it there is asked again)
-                    call.head.key.clone_from(&call.object);
-                }
-                return Some(guard.clone());
+            if let Some(guard) = self.serves(call) {
+                return Some(guard);
             }
             if self.guards.iter().all(|guard| guard.is_up()) {
                 return None;
@@ -325,6 +323,19 @@ impl Retry {
                 std::future::pending::<()>().await;
             }
         }
+    }
+
+    /// The same, if there is one by now.
+    fn serves(&self, call: &mut Call) -> Option<Arc<Upstream>> {
+        let serves = |guard: &&Arc<Upstream>| guard.is_up() && guard.may_know(call.store.as_ref());
+        let led = call.led.and_then(|index| self.guards.get(index)).filter(serves);
+        let guard = led.or_else(|| self.guards.iter().find(serves))?;
+        let is_led = led.is_some();
+        if !is_led && call.led.take().is_some() {
+            // (who led it there is asked again)
+            call.object.iter().for_each(|object| call.head.key.clone_from(object));
+        }
+        Some(guard.clone())
     }
 
     /// What follows from a guard's reply to a request.
@@ -509,7 +520,7 @@ mod tests {
     use crate::compose::Contexts;
     use crate::store::Outcome;
     use lemonrudder::cdr::Writer;
-    use lemonrudder::{Order, Version};
+    use lemonrudder::{write, FtRequest, Order, Version};
 
     fn of(outcome: Outcome) -> Reply {
         let body = Body::at(outcome.place.into(), outcome.body);
