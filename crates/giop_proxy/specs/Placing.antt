@@ -1,5 +1,5 @@
--- A Request and a Reply whose body stands at a place. Values in a body are aligned from the beginning of its message (CDR
--- 9.3.1.1), so a body that is passed on as it came has to stand, modulo 8, where it stood.
+-- A Request and a Reply whose body stands at a place. CDR 9.3.1.1: values in a body are aligned from the beginning of its
+-- message, so a body that is passed on as it came has to stand, modulo 8, where it stood.
 use Rattle.std.specs.Prelude.{◌≡◌, ℕ, ◌+◌, ◌%◌, ◌==◌, ◌<◌, ◌≤◌, Bool, true, false, List, [], ◌∷◌, ◌++◌, length, replicate, Option, Some, None, if◌then◌else◌}
 use Rattle.cdr_core.specs.declared.order.Order.{Order}
 use Rattle.cdr_core.specs.Numbers.{padding}
