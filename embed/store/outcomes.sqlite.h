@@ -10,7 +10,7 @@ static const char *const texts[][2] = {
      "CREATE TABLE outcome (\n"
      "    id INTEGER PRIMARY KEY, client BLOB NOT NULL, retention INTEGER NOT NULL, expiration BLOB NOT NULL,\n"
      "    life INTEGER NOT NULL DEFAULT 0, status INTEGER, little INTEGER, place INTEGER DEFAULT 0, cuts BLOB,\n"
-     "    body BLOB, UNIQUE (client, retention));\n"
+     "    body BLOB, UNIQUE (retention, client));\n"
      "CREATE INDEX outcome_by_expiration ON outcome (expiration) WHERE status IS NOT NULL;\n"
      "CREATE TABLE outcome_body (id INTEGER PRIMARY KEY, octets BLOB NOT NULL);\n"
      "CREATE TRIGGER outcome_goes AFTER DELETE ON outcome WHEN old.body IS NULL BEGIN\n"

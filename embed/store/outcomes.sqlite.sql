@@ -20,7 +20,7 @@ END FROM pragma_table_info('outcome')
 CREATE TABLE outcome (
     id INTEGER PRIMARY KEY, client BLOB NOT NULL, retention INTEGER NOT NULL, expiration BLOB NOT NULL,
     life INTEGER NOT NULL DEFAULT 0, status INTEGER, little INTEGER, place INTEGER DEFAULT 0, cuts BLOB,
-    body BLOB, UNIQUE (client, retention));
+    body BLOB, UNIQUE (retention, client));
 CREATE INDEX outcome_by_expiration ON outcome (expiration) WHERE status IS NOT NULL;
 CREATE TABLE outcome_body (id INTEGER PRIMARY KEY, octets BLOB NOT NULL);
 CREATE TRIGGER outcome_goes AFTER DELETE ON outcome WHEN old.body IS NULL BEGIN

@@ -31,13 +31,14 @@ const FIND: &str = "SELECT status, little, place,
         coalesce(body, (SELECT octets FROM outcome_body WHERE outcome_body.id = outcome.id)), life,
         cuts
     FROM outcome WHERE client = ?1 AND retention = ?2";
-const LEAST: &str = "SELECT moment FROM forgotten";
-const BEGIN: &str =
-    "INSERT INTO outcome (client, retention, expiration, life) VALUES (?1, ?2, ?3, ?4)";
+/// (a key that is there, or one that expires before W, is not begun)
+const BEGIN: &str = "INSERT INTO outcome (client, retention, expiration, life)
+    SELECT ?1, ?2, ?3, ?4 FROM forgotten WHERE moment <= ?3 ON CONFLICT DO NOTHING";
 const FINISH: &str = "UPDATE outcome SET status = ?3, little = ?4, place = ?5, body = ?6,
         cuts = ?7
-    WHERE client = ?1 AND retention = ?2 AND status IS NULL RETURNING id";
-const BODY: &str = "INSERT INTO outcome_body VALUES (?1, ?2)";
+    WHERE client = ?1 AND retention = ?2 AND status IS NULL";
+const BODY: &str = "INSERT INTO outcome_body
+    SELECT id, ?3 FROM outcome WHERE client = ?1 AND retention = ?2";
 const UNDO: &str = "DELETE FROM outcome WHERE client = ?1 AND retention = ?2 AND status IS NULL";
 const EXPIRED: &str = "SELECT expiration, id FROM outcome
     WHERE status IS NOT NULL AND expiration < ?1 ORDER BY expiration LIMIT ?2";
@@ -81,23 +82,16 @@ fn execute(with: &Transaction<'_>, words: &str, values: impl rusqlite::Params) -
     with.prepare_cached(words)?.execute(values)
 }
 
-/// W.
-fn least(with: &Transaction<'_>) -> Result<[u8; 8]> {
-    with.prepare_cached(LEAST)?.query_row([], |row| row.get(0))
-}
-
 fn begin(with: &Transaction<'_>, life: i64, key: &Key, expiration: u64) -> Result<Done> {
-    let begun = match find(with, key)? {
-        Some((Some(outcome), of)) => Begun::Done { outcome, is_ours: of == life },
-        Some((None, _)) => return Ok(Done::Waits),
-        None if expiration.to_be_bytes() < least(with)? => Begun::Expired,
-        None => {
-            let values = params![key.client, key.number, expiration.to_be_bytes(), life];
-            execute(with, BEGIN, values)?;
-            Begun::New
-        }
-    };
-    Ok(Done::Begun(begun))
+    let values = params![key.client, key.number, expiration.to_be_bytes(), life];
+    if execute(with, BEGIN, values)? == 1 {
+        return Ok(Done::Begun(Begun::New));
+    }
+    Ok(match find(with, key)? {
+        Some((Some(outcome), of)) => Done::Begun(Begun::Done { outcome, is_ours: of == life }),
+        Some((None, _)) => Done::Waits,
+        None => Done::Begun(Begun::Expired),
+    })
 }
 
 fn finish(with: &Transaction<'_>, key: &Key, outcome: &Outcome) -> Result<Done> {
@@ -105,11 +99,9 @@ fn finish(with: &Transaction<'_>, key: &Key, outcome: &Outcome) -> Result<Done> 
     let short = Some(body).filter(|body| body.len() <= SHORT);
     let cuts = cuts.octets();
     let values = params![key.client, key.number, status, order_of(outcome), place, short, cuts];
-    let mut finish = with.prepare_cached(FINISH)?;
-    let id: Option<i64> = finish.query_row(values, |row| row.get(0)).optional()?;
-    if let Some(id) = id {
+    if execute(with, FINISH, values)? == 1 {
         if short.is_none() {
-            execute(with, BODY, params![id, body])?;
+            execute(with, BODY, params![key.client, key.number, body])?;
         }
         return Ok(Done::Finished(Ok(outcome.clone())));
     }
