@@ -10,3 +10,11 @@ pub mod Places
 pub mod Shortest
 pub mod Requesting
 pub mod Fragmenting
+pub mod PassingSights
+pub mod PassingSplits
+pub mod PassingSteps
+pub mod PassingKeys
+pub mod PassingJoins
+pub mod PassingHearing
+pub mod PassingBounds
+pub mod PassingFrames
