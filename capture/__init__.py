@@ -1,0 +1,1 @@
+"""The page for a browser that giop-capture makes."""
