@@ -52,7 +52,8 @@ const objectOf = (row) => data.objects[column.object[callOf[row]]];
 const clientOf = (row) => textOf(column.client[callOf[row]]);
 
 /** The lanes that each row's arrow goes from, and to. */
-const laneOf = [0, 1].map((end) => Int32Array.from(column.connection, (connection, row) => endsOf.get(connection)[3 + (end ^ column.side[row])]));
+const laneOf = [0, 1].map((end) => Int32Array.from(column.connection,
+  (connection, row) => endsOf.get(connection)[3 + (end ^ column.side[row])]));
 
 function addressesOf(row) {
   const [, opener, acceptor] = endsOf.get(column.connection[row]);
@@ -74,7 +75,8 @@ function span(nanoseconds) {
   return `${value.toFixed(unit === 1 || value >= 100 ? 0 : value >= 10 ? 1 : 2)} ${name}`;
 }
 
-const counted = (number, one, many = `${one}s`) => `${number.toLocaleString("en")} ${number === 1 ? one : many}`;
+const digits = (number) => number.toLocaleString("en");
+const counted = (number, one) => `${digits(number)} ${one}${number === 1 ? "" : "s"}`;
 
 /** An element with its attributes, and the texts and elements in it. */
 function make(name, attributes, ...inside) {

@@ -54,9 +54,10 @@ function arrowOf(row) {
     ? `M${tip - 5} ${middle - 5}l10 10m0 -10l-10 10`
     : kind === "CloseConnection" ? `M${tip} ${middle - 6}v12`
       : `M${tip - way * HEAD} ${middle - 4.5}L${tip} ${middle}L${tip - way * HEAD} ${middle + 4.5}${isBack ? "" : "z"}`;
+  const isOpen = isLost || isBack || kind === "CloseConnection";
   return [
-    draw("path", { class: name, d: `M${start + way * 2} ${middle}H${isLost || isBack || kind === "CloseConnection" ? tip : tip - way * 4}` }),
-    draw("path", { class: `${name} ${isLost || isBack || kind === "CloseConnection" ? "open" : "head"}`, d: head }),
+    draw("path", { class: name, d: `M${start + way * 2} ${middle}H${isOpen ? tip : tip - way * 4}` }),
+    draw("path", { class: `${name} ${isOpen ? "open" : "head"}`, d: head }),
   ];
 }
 
@@ -125,19 +126,22 @@ function messageRow(place, row) {
 /** The row of a mark. */
 function markRow(place, mark) {
   const side = endsOf.get(mark[2])[mark[3] ? 2 : 1];
+  const words = make("bdi", { class: TONES[mark[4]] }, `connection ${mark[2]} ${mark[6]}`);
   return [
     make("td", { class: "number" }), make("td", { class: "time" }, clock(mark[1])), laneCell(place, "line", signOf(mark)),
     make("td", { class: "object" }),
-    make("td", { class: "words mark" }, make("div", {}, make("bdi", { class: TONES[mark[4]] }, `connection ${mark[2]} ${mark[6]}`),
-      make("span", { class: "quiet" }, ` by ${side}`))),
+    make("td", { class: "words mark" }, make("div", {}, words, make("span", { class: "quiet" }, ` by ${side}`))),
     make("td", { class: "late" }),
   ];
 }
 
 /** The row of a gap. */
 function gapRow(place, gap) {
+  const words = [
+    make("span", { class: "quiet" }, `${span(gap)} later`), make("span", { "aria-hidden": "true" }, `+ ${span(gap)}`),
+  ];
   return [
-    make("td", { class: "number" }), make("td", { class: "time gap" }, make("span", { class: "quiet" }, `${span(gap)} later`), make("span", { "aria-hidden": "true" }, `+ ${span(gap)}`)), laneCell(place, "line broken", []),
+    make("td", { class: "number" }), make("td", { class: "time gap" }, ...words), laneCell(place, "line broken", []),
     make("td", { class: "object" }), make("td", { class: "words" }), make("td", { class: "late" }),
   ];
 }

@@ -11,6 +11,8 @@ from capture.spelled import visible
 
 # so many bars stand for latencies that are ten times as long
 BARS = 3
+# so many rows a table has
+MOST = 1000
 
 
 def bar_of(latency: int) -> int:
@@ -72,4 +74,5 @@ class Operations:
         rows = sorted(self.calls.values(), key=lambda it: -it.requests)
         ends = [bar_of(end(it.latencies)) for it in rows if it.latencies for end in (min, max)]
         bars = range(min(ends), max(ends) + 1) if ends else range(0)
-        return {"rows": [it.told(bars) for it in rows], "bars": [10 ** (bar / BARS) for bar in [*bars, bars.stop] if bars]}
+        edges = [10 ** (bar / BARS) for bar in range(bars.start, bars.stop + 1)] if bars else []
+        return {"count": len(rows), "rows": [it.told(bars) for it in rows[:MOST]], "bars": edges}

@@ -11,6 +11,9 @@ let active = -1, selected = -1, isPrinting = false, isDrawn = false;
 /** Where the first item is, or would be, in the window. */
 const topOf = () => list.getBoundingClientRect().top + list.tHead.offsetHeight;
 
+/** How much of the window is covered from above. */
+const headHeight = () => list.tHead.offsetHeight + byId("bar").offsetHeight;
+
 /** Which items are seen, and some beyond. */
 function range() {
   if (isPrinting) return [0, Math.min(items.kind.length, PRINTED)];
@@ -77,7 +80,8 @@ function setFilter(words) {
   items = itemsOf(words);
   active = -1;
   byId("none").hidden = items.rows.length > 0;
-  byId("shown").textContent = items.rows.length === count ? counted(count, "message") : `${items.rows.length.toLocaleString("en")} of ${counted(count, "message")}`;
+  const left = items.rows.length === count ? "" : `${digits(items.rows.length)} of `;
+  byId("shown").textContent = left + counted(count, "message");
   for (const chip of byId("chips").children) chip.setAttribute("aria-pressed", String(wordsIn(words).includes(chip.value)));
   lay();
 }
@@ -92,7 +96,7 @@ function toggle(word) {
 
 /** Scrolls until an item is seen. */
 function reveal(place, isMiddle) {
-  const head = list.tHead.offsetHeight + byId("bar").offsetHeight;
+  const head = headHeight();
   const at = topOf() + place * HEIGHT;
   if (at >= head && at + HEIGHT <= innerHeight) return;
   const wanted = isMiddle ? innerHeight / 3 : at < head ? head : innerHeight - HEIGHT - 8;
@@ -100,9 +104,15 @@ function reveal(place, isMiddle) {
   render();
 }
 
+/** The item that keys begin at: the one behind where they were, or the first that is seen. */
+function begin(step) {
+  const place = active >= 0 || selected < 0 ? active : items.at[selected];
+  return place >= 0 ? place + step : Math.max(0, Math.ceil((headHeight() - topOf()) / HEIGHT));
+}
+
 /** Moves to the next message, or the one before. */
 function move(step) {
-  let place = active < 0 ? (selected >= 0 ? items.at[selected] : range()[0] - (step > 0 ? 1 : 0)) + (selected >= 0 || step > 0 ? step : 0) : active + step;
+  let place = begin(step);
   while (place >= 0 && place < items.kind.length && items.kind[place] !== ROW) place += step;
   if (place < 0 || place >= items.kind.length) return;
   active = place;
@@ -143,7 +153,8 @@ function press(event) {
   const does = {
     "/": isIn ? null : () => { input.focus(); input.select(); },
     Escape: selected >= 0 ? close : isIn && input.value ? () => setFilter("") : null,
-    ArrowDown: byId("details").contains(event.target) ? null : () => move(1),
+    Enter: isIn ? () => move(1) : null,
+    ArrowDown: isIn || byId("details").contains(event.target) ? null : () => move(1),
     ArrowUp: isIn || byId("details").contains(event.target) ? null : () => move(-1),
   }[event.key];
   if (!does) return;
@@ -155,23 +166,28 @@ function press(event) {
 function showHead() {
   const last = count ? column.since[count - 1] : 0;
   byId("title").replaceChildren(make("bdi", {}, data.title));
-  const start = data.start === null ? "" : `, from ${new Date(Number(BigInt(data.start) / 1000000n)).toISOString().replace("T", " ").replace("Z", " UTC")}`;
-  byId("about").textContent = `${counted(data.messages, "message")} on ${counted(data.connections, "connection")}${last > 0 ? ` in ${span(last)}` : ""}${start}`;
+  const time = data.start === null ? "" : new Date(Number(BigInt(data.start) / 1000000n)).toISOString();
+  byId("about").textContent = `${counted(data.messages, "message")} on ${counted(data.connections, "connection")}${
+    last > 0 ? ` in ${span(last)}` : ""}${time && `, from ${time.replace("T", " ").replace("Z", " UTC")}`}`;
   if (data.left === null) return;
   byId("left").hidden = byId("ways").hidden = false;
-  byId("left").textContent = `${counted(data.left.count, "message")} behind message ${data.left.after} are left out here; the table counts all. A filter of giop-capture makes a page that has them:`;
-  byId("ways").replaceChildren(make("ul", {}, ...data.left.ways.map(([words, number]) => make("li", {}, make("code", {}, words), ` ${counted(number, "message")} of them`))));
+  byId("left").textContent = `${counted(data.left.count, "message")} behind message ${digits(data.left.after)} ${
+    data.left.count === 1 ? "is" : "are"} left out here; the table counts all. An option of giop-capture brings them:`;
+  byId("ways").replaceChildren(make("ul", {}, ...data.left.ways.map(
+    ([words, number]) => make("li", {}, make("code", {}, words), ` ${counted(number, "message")} of them`))));
 }
 
 /** Words that a filter may have. */
 function showWords() {
   const clients = new Set(column.client.filter((it) => it >= 0).map(textOf));
   const operations = new Set(data.operations.rows.map(([name]) => name).filter((it) => it !== null));
-  const words = [...[...operations].slice(0, 200).map((it) => `operation:${quoted(it)}`), ...[...clients].slice(0, 200).map((it) => `client:${quoted(it)}`),
-    ...data.objects.slice(0, 200).map(([letter, text]) => `object:${quoted(letter || text)}`)];
+  const objects = data.objects.map(([letter, text]) => letter || text);
+  const words = [["operation", [...operations]], ["client", [...clients]], ["object", objects]]
+    .flatMap(([name, all]) => all.slice(0, 200).map((it) => `${name}:${quoted(it)}`));
   byId("words").append(...words.filter((it) => it.length < 200).map((it) => make("option", { value: it })));
   byId("chips").replaceChildren(...countsOf().filter(([, number]) => number).map(([word, number]) => {
-    const chip = make("button", { type: "button", value: word, "aria-pressed": "false" }, `${word === SLOW ? "> 100 ms" : word} `, make("span", { class: "of" }, number.toLocaleString("en")));
+    const chip = make("button", { type: "button", value: word, "aria-pressed": "false" }, `${word === SLOW ? "> 100 ms" : word} `,
+      make("span", { class: "of" }, digits(number)));
     chip.addEventListener("click", () => toggle(word));
     return chip;
   }));
@@ -190,8 +206,8 @@ function layColumns() {
   const { style } = document.documentElement;
   const longest = [String(column.number[count - 1] ?? 0), clock(column.since.reduce((most, it) => Math.max(most, it), 0))];
   style.setProperty("--row", `${HEIGHT}px`);
-  style.setProperty("--number", `${Math.max(52, 9 * longest[0].length + 18)}px`);
-  style.setProperty("--time", `${Math.max(96, 9 * longest[1].length + 18)}px`);
+  style.setProperty("--number", `${Math.max(44, 9 * longest[0].length + 18)}px`);
+  style.setProperty("--time", `${Math.max(88, 9 * longest[1].length + 18)}px`);
 }
 
 layColumns();

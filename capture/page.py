@@ -83,7 +83,7 @@ class Page:
             self.operations.take(one)
             if len(self.rows.more) < self.most:
                 self.rows.take(one)
-                self.shown = one["number"]
+                self.shown = max(self.shown, one["number"])
             else:
                 self.left.take(one)
         elif one["line"] == "connection":
@@ -98,6 +98,7 @@ class Page:
     def data(self, title: str) -> dict[str, Any]:
         """What the script reads."""
         rows = self.rows
+        rows.sort()
         lanes = lanes_of(rows.ends.values())
         places = {lane: place for place, lane in enumerate(lanes)}
         return {

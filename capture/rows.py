@@ -22,7 +22,8 @@ TONES = {"NO_EXCEPTION": PLAIN, "OBJECT_HERE": PLAIN, "USER_EXCEPTION": EXCEPTIO
          "LOCATION_FORWARD_PERM": FORWARD, "NEEDS_ADDRESSING_MODE": FORWARD, "OBJECT_FORWARD": FORWARD,
          "OBJECT_FORWARD_PERM": FORWARD, "LOC_NEEDS_ADDRESSING_MODE": FORWARD}
 # what is said of octets that are in no message
-BETWEEN = {"missing": "missing in the capture", "passed": "passed over", "rest": "of a frame left at the end", "unread": "not read"}
+BETWEEN = {"missing": "missing in the capture", "passed": "passed over", "rest": "of a frame left at the end",
+           "unread": "not read"}
 UNANSWERED, CANCELLED, STRAY, ONE_WAY = 1, 2, 4, 8
 # so many characters of values stand in a row
 TAIL = 240
@@ -107,7 +108,7 @@ class Rows:
         self.left = ALL
         # where calls are led to: by the host that asks, the address, the operation and the key, the rows of answers
         self.led: dict[tuple[Any, ...], list[int]] = {}
-        self.asked: dict[int, dict[str, Any]] = {}
+        self.asked: dict[int, tuple[str, str | None]] = {}
         self.place: dict[int, int] = {}
 
     def text(self, words: str | None) -> int:
@@ -131,7 +132,7 @@ class Rows:
         self.left -= octets
         return digits[:2 * octets]
 
-    def told(self, one: dict[str, Any], tail: str) -> str:
+    def told(self, one: dict[str, Any]) -> str:
         """What is told of a message beside its row."""
         more = {name: it for name, it in one.items() if name not in IN_ROW}
         more["contexts"] = [{**it, "size": len(it["octets"]) // 2, "octets": self.cut(it["octets"])}
@@ -140,17 +141,17 @@ class Rows:
             more["body"] = self.cut(one["body"])
         if one.get("values"):
             more["values"] = [[name, value(it)] for name, it in one["values"].items()]
-        if len(tail) > TAIL:
-            more["whole"] = tail
         return json.dumps(safe(more), separators=(",", ":"))
 
-    def ask(self, one: dict[str, Any], row: int) -> None:
+    def ask(self, one: dict[str, Any]) -> None:
         """Takes a request: it may be where an answer led on to."""
         opener, acceptor = self.ends[one["connection"]]
         key = one["target"].get("key") if one["target"] else None
-        self.asked[one["number"]] = {"host": opener.rpartition(":")[0], "operation": one["operation"], "kind": one["kind"]}
+        host = opener.rpartition(":")[0]
+        self.asked[one["number"]] = host, one["operation"]
+        # (a LocateRequest that is led on may be followed by a request of any operation)
         for operation in (one["operation"], None):
-            waiting = self.led.get((opener.rpartition(":")[0], acceptor, operation, key))
+            waiting = self.led.get((host, acceptor, operation, key))
             if waiting:
                 self.columns["next"][waiting.pop(0)] = one["number"]
                 return
@@ -160,8 +161,8 @@ class Rows:
         asked = self.asked.pop(one["request"], None)
         to = led_to(one)
         if asked is not None and to:
-            at = asked["host"], address(to[0]["host"], to[0]["port"]), asked["operation"], to[0]["key"]
-            self.led.setdefault(at, []).append(row)
+            host, operation = asked
+            self.led.setdefault((host, address(to[0]["host"], to[0]["port"]), operation, to[0]["key"]), []).append(row)
 
     def take(self, one: dict[str, Any]) -> None:
         """Takes a message."""
@@ -179,9 +180,9 @@ class Rows:
                   one["repeats"] or 0, 0, flags)
         for name, it in zip(COLUMNS, row_of):
             self.columns[name].append(it)
-        self.more.append(self.told(one, tail))
+        self.more.append(self.told(one))
         if one["kind"] in ASK:
-            self.ask(one, row)
+            self.ask(one)
         elif one["kind"] in ANSWER:
             self.answer(one, row)
 
@@ -198,6 +199,12 @@ class Rows:
             for number in one[name]:
                 if number in self.place:
                     self.columns["flags"][self.place[number]] |= flag
+
+    def sort(self) -> None:
+        """Puts the rows in the order of their numbers: where messages are chosen, some come behind later ones."""
+        order = sorted(range(len(self.more)), key=self.columns["number"].__getitem__)
+        self.columns = {name: [column[row] for row in order] for name, column in self.columns.items()}
+        self.more = [self.more[row] for row in order]
 
     def parts(self) -> list[str]:
         """What is told of messages, in parts."""

@@ -23,11 +23,11 @@ function bars(counts) {
 function callsRow([operation, letter, object, requests, answers, repeats, lost, raised, ...rest]) {
   const counts = rest[4];
   const words = operation === null ? "LocateRequest" : `operation:${quoted(operation)}`;
-  const name = make("button", { type: "button", class: "link" }, make("bdi", {}, operation === null ? "LocateRequest" : operation));
+  const name = make("button", { type: "button", class: "link" }, make("bdi", {}, operation ?? "LocateRequest"));
   name.addEventListener("click", () => setFilter(words));
-  const cell = (it, tone = "") => make("td", { class: `number ${it ? tone : "zero"}` }, it.toLocaleString("en"));
+  const cell = (it, tone = "") => make("td", { class: `number ${it ? tone : "zero"}` }, digits(it));
   return make("tr", {}, make("th", { scope: "row" }, name),
-    make("td", { class: "of-object", title: object }, make("bdi", {}, letter ? `${letter}` : ""), " ", make("bdi", { class: "of" }, object)),
+    make("td", { class: "of-object", title: object }, make("bdi", {}, letter), " ", make("bdi", { class: "of" }, object)),
     cell(requests), cell(answers), cell(repeats, "repeat"), cell(lost, "lost"), cell(raised, "exception"),
     ...rest.slice(0, 4).map((it) => make("td", { class: "number" }, it === null ? "" : span(it))),
     make("td", { class: "bars" }, counts.some((it) => it) ? bars(counts) : ""));
@@ -35,12 +35,12 @@ function callsRow([operation, letter, object, requests, answers, repeats, lost, 
 
 /** Shows the table: its first rows, or all. */
 function showTable(isWhole) {
-  const { rows, bars: edges } = data.operations;
+  const { rows, count: all, bars: edges } = data.operations;
   const head = OF_TABLE.map(([words, name]) => make("th", { scope: "col", class: name }, words,
     name === "bars" && edges.length ? make("small", {}, `${span(edges[0])} to ${span(edges[edges.length - 1])}`) : null));
   byId("operations").tHead.replaceChildren(make("tr", {}, ...head));
   byId("operations").tBodies[0].replaceChildren(...rows.slice(0, isWhole ? rows.length : SHOWN).map(callsRow));
   byId("all").hidden = isWhole || rows.length <= SHOWN;
-  byId("all").textContent = `All ${rows.length.toLocaleString("en")} rows`;
+  byId("all").textContent = `${all > rows.length ? `The first ${digits(rows.length)} of` : "All"} ${digits(all)} rows`;
   byId("calls").hidden = rows.length === 0;
 }

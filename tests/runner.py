@@ -27,7 +27,7 @@ from tests import base, programs
 # what is about programs, and about the library for C
 OF_PROGRAMS = [
     "tests.cases", "tests.rows", "tests.readings", "tests.locations", "tests.inputs", "tests.made_pages", "tests.trace",
-    "tests.typed", "tests.captures", "tests.serve", "tests.schedules", "tests.engine", "tests.deeds",
+    "tests.typed", "tests.captures", "tests.capture_page", "tests.serve", "tests.schedules", "tests.engine", "tests.deeds",
     "tests.compare_server", "tests.echo", "tests.bounded_allocations", "tests.refused_allocations",
 ]
 OF_LIBRARY = [
