@@ -6,7 +6,7 @@ let items = null, lanes = null, wide = 0, gutter = 0;
 /** Lays the lanes of the items into a width. */
 function layLanes(width) {
   const room = Math.max(260, width * 0.4);
-  lanes = lanesIn(items, Math.max(2, Math.min(12, Math.floor(room / NARROW))));
+  lanes = lanesIn(items, Math.max(4, Math.min(12, Math.floor(room / NARROW))));
   gutter = items.tracks.length * TRACK + (items.tracks.length ? 6 : 0);
   wide = Math.max(NARROW, Math.min(132, Math.floor((room - gutter) / lanes.heads.length)));
   document.documentElement.style.setProperty("--lanes", `${gutter + wide * lanes.heads.length}px`);

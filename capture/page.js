@@ -4,6 +4,8 @@
 const BEYOND = 12, PRINTED = 5000;
 // how wide a printed page is
 const PAPER = 1010;
+// how wide a small window is, and what share of it fields leave there
+const SMALL = 760, SHARE = 0.45;
 const input = byId("filter"), rows = byId("rows"), list = byId("list");
 const made = new Map();
 let active = -1, selected = -1, isPrinting = false, isDrawn = false;
@@ -80,6 +82,7 @@ function setFilter(words) {
   items = itemsOf(words);
   active = -1;
   byId("none").hidden = items.rows.length > 0;
+  byId("none").textContent = count ? "No message is like this." : "There is no message.";
   const left = items.rows.length === count ? "" : `${digits(items.rows.length)} of `;
   byId("shown").textContent = left + counted(count, "message");
   for (const chip of byId("chips").children) chip.setAttribute("aria-pressed", String(wordsIn(words).includes(chip.value)));
@@ -98,8 +101,9 @@ function toggle(word) {
 function reveal(place, isMiddle) {
   const head = headHeight();
   const at = topOf() + place * HEIGHT;
-  if (at >= head && at + HEIGHT <= innerHeight) return;
-  const wanted = isMiddle ? innerHeight / 3 : at < head ? head : innerHeight - HEIGHT - 8;
+  const below = byId("details").hidden || innerWidth > SMALL ? innerHeight : SHARE * innerHeight;
+  if (at >= head && at + HEIGHT <= below) return;
+  const wanted = isMiddle ? Math.max(head, below / 3) : at < head ? head : below - HEIGHT - 8;
   scrollBy(0, at - wanted);
   render();
 }

@@ -149,17 +149,19 @@ function spanAt(track, place) {
   return low > 0 && endOf(track[low - 1]) >= place ? track[low - 1] : null;
 }
 
-/** The lanes that items have, with the place of each; where there are too many, those of fewest messages share one. */
+/** The lanes that items have, with the place of each; where there are too many, those of fewest messages share one: the hosts
+ * on the left, the addresses on the right. */
 function lanesIn(items, most) {
   const uses = new Array(data.lanes.length).fill(0);
   for (const ends of laneOf) for (const row of items.rows) uses[ends[row]] += 1;
-  let shown = data.lanes.map((_, lane) => lane).filter((lane) => uses[lane]);
-  if (!shown.length) shown = data.lanes.map((_, lane) => lane).slice(0, most);
-  const others = shown.length > most ? [...shown].sort((a, b) => uses[b] - uses[a]).slice(most - 1) : [];
+  const shown = data.lanes.map((_, lane) => lane).filter((lane) => uses[lane] || !items.rows.length);
+  const others = shown.length > most ? [...shown].sort((a, b) => uses[b] - uses[a]).slice(most - 2) : [];
+  const [hosts, addresses] = [false, true].map((called) => others.filter((lane) => data.lanes[lane][1] === called));
   const isOther = new Set(others);
   const kept = shown.filter((lane) => !isOther.has(lane));
   const heads = kept.map((lane) => ({ name: data.lanes[lane][0], called: data.lanes[lane][1] }));
-  if (others.length) heads.push({ name: `${others.length} others`, called: false });
-  const place = data.lanes.map((_, lane) => kept.indexOf(lane));
-  return { heads, place: place.map((it) => (it < 0 ? heads.length - 1 : it)) };
+  if (hosts.length) heads.unshift({ name: `${hosts.length} hosts`, called: false });
+  if (addresses.length) heads.push({ name: `${addresses.length} addresses`, called: true });
+  const places = new Map(kept.map((lane, n) => [lane, n + (hosts.length ? 1 : 0)]));
+  return { heads, place: data.lanes.map(([, called], lane) => places.get(lane) ?? (called ? heads.length - 1 : 0)) };
 }
