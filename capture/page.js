@@ -153,11 +153,11 @@ function close() {
 /** What a key does. */
 function press(event) {
   if (event.ctrlKey || event.metaKey || event.altKey) return;
-  const isIn = event.target instanceof HTMLInputElement;
+  const isIn = event.target === input;
   const does = {
     "/": isIn ? null : () => { input.focus(); input.select(); },
     Escape: selected >= 0 ? close : isIn && input.value ? () => setFilter("") : null,
-    Enter: isIn ? () => move(1) : null,
+    Enter: isIn ? () => move(1) : event.target.closest("tr.selected td.number") ? () => byId("details").focus() : null,
     ArrowDown: isIn || byId("details").contains(event.target) ? null : () => move(1),
     ArrowUp: isIn || byId("details").contains(event.target) ? null : () => move(-1),
   }[event.key];

@@ -17,6 +17,7 @@ from tests import base, giop, programs
 from tests.captures import CAPTURES, EXAMPLE, TYPES, Line, Written
 
 sys.path.insert(0, programs.ROOT)
+from capture.lanes import lanes_of  # noqa: E402
 from capture.page import page  # noqa: E402
 
 # what is seen of the rows: the texts of their cells but for what only a screen reader has, and the classes of arrows
@@ -203,7 +204,7 @@ class Bank(Shown):
         self.shown.click("#rows tr:nth-child(8) td.words")
         self.assertEqual(self.shown.value("location.hash"), "#m6")
         self.assertEqual(self.shown.value(text_of("#details-head")), "6 Request deposit")
-        # FT_REQUEST: a 0 for the order, 3 octets to align, client_id, retention_id, expiration_time (FT 1.0, 2.5.3)
+        # FT_REQUEST: a 0 for the order, 3 octets to align, client_id, retention_id, expiration_time (FT 23.2.7)
         context = ("0000  00 00 00 00 00 00 00 07  ........\n0008  74 65 6c 6c 65 72 00 00  teller..\n"
                    "0010  00 00 00 02 00 00 00 00  ........\n0018  02 c6 8a f0 bb 14 00 00  ........")
         body = ("0000  00 00 00 08 73 61 76 69  ....savi\n0008  6e 67 73 00 00 00 00 00  ngs.....\n"
@@ -241,6 +242,11 @@ class Bank(Shown):
         self.shown.key("ArrowUp")
         self.shown.key("Enter")
         self.assertEqual(self.shown.value(text_of("#details-head")), "2 Reply deposit")
+        self.shown.key("ArrowDown")
+        self.assertEqual(self.shown.value(text_of("#details-head")), "5 Request deposit")
+        self.shown.key("ArrowUp")
+        self.shown.key("Enter")
+        self.assertEqual(self.shown.value("document.activeElement.id"), "details")
         self.shown.key("Escape")
         self.assertTrue(self.shown.value("document.getElementById('details').hidden"))
         self.assertEqual(self.shown.value("document.activeElement.textContent"), "2")
@@ -330,6 +336,15 @@ class Names(Shown):
         self.assertEqual([min(range(3), key=lambda n: abs(lanes[n] - sign)) for sign in signs[:2]], [0, 1])
 
 
+def block_in(made, name):
+    """A block of a page that has data."""
+    return re.search(f'<script type="application/json" id="{name}">(.*)</script>', made).group(1)
+
+
+def numbers_in(made):
+    return json.loads(block_in(made, "data"))["columns"]["number"]
+
+
 def asked(number, **fields):
     """A line of `giop trace --json` of a request."""
     return json.dumps({
@@ -412,6 +427,87 @@ class Hostile(Shown):
         self.assertEqual(self.shown.value(FIELDS)[0], ["Values", "n: 9223372036854775808", 's: "\\u{2028}<b>"'])
 
 
+@programs.needs(NAME)
+class Octets(Shown):
+    """A message with more octets than a page has."""
+
+    def test_body(self):
+        """The first octets of a body are shown, all that the page has on a click, and how many are left out."""
+        path = os.path.join(self.folder, "long.html")
+        with open(path, "w", encoding="utf-8") as file:
+            file.writelines(page([asked(4, octets=70_000, body="3c620041" * 17_500), ENDED], "long", []))
+        self.shown.open(path, "#m4")
+        lines = self.shown.value(text_of("#fields pre")).split("\n")
+        self.assertEqual((len(lines), lines[1]), (256, "0008  3c 62 00 41 3c 62 00 41  <b.A<b.A"))
+        self.assertEqual(self.shown.value("['p.of', 'code'].map(it => document.querySelector(`#fields ${it}`).textContent)"), [
+            "4,464 octets more are left out of this page. They are printed by:", "giop-capture FILE --call 4 --bodies"])
+        self.assertEqual(self.shown.value(text_of("#fields button")), "All 65,536 octets")
+        self.shown.value("document.querySelector('#fields button').click()")
+        self.assertEqual(len(self.shown.value(text_of("#fields pre")).split("\n")), 8192)
+
+    def test_lanes(self):
+        """Where there is no room, hosts with few messages share a lane, and addresses too."""
+        path = os.path.join(self.folder, "lanes.html")
+        lines = [asked(n, connection=n, opener=f"10.0.0.{min(n, 30)}:5", acceptor=f"10.0.1.{min(n, 30)}:1") for n in range(1, 41)]
+        with open(path, "w", encoding="utf-8") as file:
+            file.writelines(page([*lines, ENDED], "lanes", []))
+        self.shown.open(path)
+        heads = self.shown.value("[...document.querySelectorAll('.lane')].map(it => it.textContent)")
+        self.assertRegex(heads[0], r"\A2\d hosts\Z")
+        self.assertRegex(heads[-1], r"\A2\d addresses\Z")
+        self.assertIn("10.0.0.30", heads)
+        self.assertIn("10.0.1.30:1", heads)
+
+
+class Derived(unittest.TestCase):
+    """What a page has that the lines don't say."""
+
+    def made(self, *lines):
+        return "".join(page([*lines, ENDED], "made", []))
+
+    def test_lanes(self):
+        """A relay stands behind those that call it, and before those that it calls; a host that calls itself is on the left."""
+        self.assertEqual(lanes_of([("10.0.0.2:6", "10.0.0.3:1"), ("10.0.0.1:5", "10.0.0.2:1")]), [
+            ("10.0.0.1", False), ("10.0.0.2:1", True), ("10.0.0.2", False), ("10.0.0.3:1", True)])
+        self.assertEqual(lanes_of([("::1:5", "::1:1")]), [("::1", False), ("::1:1", True)])
+        ring = lanes_of([("10.0.0.1:5", "10.0.0.2:1"), ("10.0.0.2:5", "10.0.0.1:1")])
+        self.assertEqual(sorted(ring), [("10.0.0.1", False), ("10.0.0.1:1", True), ("10.0.0.2", False), ("10.0.0.2:1", True)])
+
+    def test_located(self):
+        """A LocateRequest that is led on goes on in the next request for that key there, of that host, and no other."""
+        to = {"tag": 0, "octets": None, "minor": 2, "host": "127.0.0.1", "port": 3, "key": "6b", "object": "A", "components": []}
+        answer = {"kind": "LocateReply", "direction": "acceptor", "request": 1, "status": "OBJECT_FORWARD", "reply": None,
+                  "target": None, "operation": None, "forward": {"valid": True, "type_id": "", "profiles": [to]}}
+        there = {"connection": 2, "acceptor": "127.0.0.1:3"}
+        made = self.made(asked(1, kind="LocateRequest", operation=None), asked(2, **answer),
+                         asked(3, **there, target={"key": "6c", "text": "l"}),
+                         asked(4, connection=3, acceptor="127.0.0.1:3", opener="10.0.0.1:1"),
+                         asked(5, connection=4, acceptor="127.0.0.1:4"), asked(6, **there), asked(7, **there))
+        self.assertEqual(json.loads(block_in(made, "data"))["columns"]["next"], [0, 6, 0, 0, 0, 0, 0])
+
+    def test_order(self):
+        """Messages that come late, as with `--unanswered`, stand in the order of their numbers."""
+        made = self.made(asked(7, operation="last"), asked(3, operation="first"))
+        self.assertEqual(numbers_in(made), [3, 7])
+        self.assertEqual([one["id"] for one in json.loads(block_in(made, "part0"))], [3, 7])
+
+    def test_octets(self):
+        """A page has 64 KiB of a body, and 16 MiB in all."""
+        body = "00" * 70_000
+        lines = [asked(n, octets=70_000, body=body) for n in range(300)]
+        sizes = [len(one["body"]) // 2 for one in json.loads(block_in(self.made(*lines), "part0"))]
+        self.assertEqual(sizes, [1 << 16] * 256 + [0] * 44)
+
+    def test_values(self):
+        """Values stand as `giop trace --types` prints them (docs/CLI.md), with all digits of numbers."""
+        values = {"n": -(2 ** 63), "b": True, "s": "a", "l": [1, {"m": 2}], "u": {"case": 1, "member": "x", "value": 2},
+                  "v": {"case": 3}}
+        line = asked(1, values=values).replace('"n":', '"f": 1e+20, "g": 0.10, "n":')
+        made = json.loads(block_in(self.made(line), "data"))
+        self.assertIn('(f = 1e+20, g = 0.10, n = -9223372036854775808, b = true, s = "a", l = [1, {m = 2}], u = {1: x = 2}, '
+                      "v = {3})", made["texts"])
+
+
 MANY, TURNS = 100_000, 6_667
 
 
@@ -471,15 +567,6 @@ class Many(Shown):
         self.assertIn(50005, self.shown.value(NUMBERS))
 
 
-def block_in(made, name):
-    """A block of a page that has data."""
-    return re.search(f'<script type="application/json" id="{name}">(.*)</script>', made).group(1)
-
-
-def numbers_in(made):
-    return json.loads(block_in(made, "data"))["columns"]["number"]
-
-
 @programs.needs("tshark")
 class Words(unittest.TestCase):
     """What `--page` is given."""
@@ -510,12 +597,6 @@ class Words(unittest.TestCase):
             self.assertEqual(self.run_of(os.path.join(programs.ROOT, EXAMPLE), *words).returncode, 0)
             with open(self.path, encoding="utf-8") as file:
                 self.assertEqual(numbers_in(file.read()), numbers)
-
-    def test_order(self):
-        """Messages that come late, as with `--unanswered`, stand in the order of their numbers."""
-        made = "".join(page([asked(7, operation="last"), asked(3, operation="first"), ENDED], "late", []))
-        self.assertEqual(numbers_in(made), [3, 7])
-        self.assertEqual([one["id"] for one in json.loads(block_in(made, "part0"))], [3, 7])
 
 
 if __name__ == "__main__":
