@@ -69,8 +69,8 @@ function clock(since) {
 
 /** A span of nanoseconds in three digits or so. */
 function span(nanoseconds) {
-  const units = [[1e9, "s"], [1e6, "ms"], [1e3, "µs"], [1, "ns"]];
-  const [unit, name] = units.find(([size]) => nanoseconds >= size) || units[3];
+  const units = [[3600e9, "h"], [60e9, "min"], [1e9, "s"], [1e6, "ms"], [1e3, "µs"], [1, "ns"]];
+  const [unit, name] = units.find(([size]) => nanoseconds >= size) || units[units.length - 1];
   const value = nanoseconds / unit;
   return `${value.toFixed(unit === 1 || value >= 100 ? 0 : value >= 10 ? 1 : 2)} ${name}`;
 }

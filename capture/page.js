@@ -1,7 +1,7 @@
 // What is shown, and what a reader does.
 
 // so many rows are made above and below those that are seen, and so many are printed
-const BEYOND = 12, PRINTED = 5000;
+const BEYOND = 20, PRINTED = 5000;
 // how wide a printed page is
 const PAPER = 1010;
 // how wide a small window is, and what share of it fields leave there
@@ -176,9 +176,10 @@ function showHead() {
   if (data.left === null) return;
   byId("left").hidden = byId("ways").hidden = false;
   byId("left").textContent = `${counted(data.left.count, "message")} behind message ${digits(data.left.after)} ${
-    data.left.count === 1 ? "is" : "are"} left out here; the table counts all. An option of giop-capture brings them:`;
+    data.left.count === 1 ? "is" : "are"} left out here; the table counts all.${
+    data.left.ways.length ? " An option of giop-capture brings them:" : ""}`;
   byId("ways").replaceChildren(make("ul", {}, ...data.left.ways.map(
-    ([words, number]) => make("li", {}, make("code", {}, words), ` ${counted(number, "message")} of them`))));
+    ([words, number]) => make("li", {}, make("code", {}, words), make("span", { class: "of" }, ` ${digits(number)} of them`)))));
 }
 
 /** Words that a filter may have. */

@@ -42,29 +42,44 @@ def sum_of(text: str) -> str:
     return base64.b64encode(hashlib.sha256(text.encode()).digest()).decode()
 
 
+Way = tuple[str, ...]
+
+
+def ways_of(one: dict[str, Any]) -> list[Way]:
+    """The options of `giop trace` that choose a message."""
+    ways: list[Way] = [] if one["operation"] is None else [("--operation", one["operation"])]
+    if one.get("latency", 0) >= SLOW * 10 ** 6:
+        ways.append(("--slower", str(SLOW)))
+    return [*ways, ("--faults",)] if one["status"] == "SYSTEM_EXCEPTION" else ways
+
+
 class Left:
     """The messages that a page has no room for, and what would have chosen them."""
 
-    def __init__(self) -> None:
-        self.count = self.slow = self.faults = 0
-        self.operations: Counter[str] = Counter()
+    def __init__(self, most: int) -> None:
+        self.most, self.count = most, 0
+        self.here: Counter[Way] = Counter()
+        self.left: Counter[Way] = Counter()
 
-    def take(self, one: dict[str, Any]) -> None:
-        self.count += 1
-        self.slow += one.get("latency", 0) >= SLOW * 10 ** 6
-        self.faults += one["status"] == "SYSTEM_EXCEPTION"
-        if one["operation"] is not None:
-            self.operations[one["operation"]] += 1
+    def take(self, one: dict[str, Any], is_left: bool) -> None:
+        """Takes a message, which is on the page or left out."""
+        self.count += is_left
+        (self.left if is_left else self.here).update(ways_of(one))
+
+    def brought(self, way: Way) -> int:
+        """How many of those that are left out are on a page of such an option."""
+        return max(0, min(self.left[way], self.most - self.here[way]))
 
     def told(self, end: dict[str, Any], last: int, words: list[str]) -> dict[str, Any] | None:
         """How many there are, and the words of `giop-capture` with how many of them each would bring."""
         if not self.count:
             return None
-        unanswered = sum(number > last for number in end["unanswered"])
-        ways = [(["--operation", name], count) for name, count in self.operations.most_common(NAMED)]
-        ways += [(["--slower", str(SLOW)], self.slow), (["--faults"], self.faults), (["--unanswered"], unanswered)]
-        said = [[" ".join(shell(visible(word)) for word in ["giop-capture", *words, *way]), count]
-                for way, count in ways if count]
+        for number in end["unanswered"]:
+            (self.left if number > last else self.here)["--unanswered",] += 1
+        named = [way for way, _ in self.left.most_common() if way[0] == "--operation"][:NAMED]
+        ways = [*named, ("--slower", str(SLOW)), ("--faults",), ("--unanswered",)]
+        said = [[" ".join(shell(visible(word)) for word in ["giop-capture", *words, *way]), self.brought(way)]
+                for way in ways if way[0] not in words and self.brought(way)]
         return {"count": self.count, "after": last, "ways": said}
 
 
@@ -73,7 +88,7 @@ class Page:
 
     def __init__(self, words: list[str], most: int) -> None:
         self.words, self.most = words, most
-        self.rows, self.operations, self.left = Rows(), Operations(), Left()
+        self.rows, self.operations, self.left = Rows(), Operations(), Left(most)
         self.last: dict[str, Any] = {"messages": 0, "connections": 0, "unanswered": [], "cancelled": []}
         self.shown = 0
 
@@ -81,11 +96,11 @@ class Page:
         """Takes a line."""
         if one["line"] == "message":
             self.operations.take(one)
-            if len(self.rows.more) < self.most:
+            is_left = len(self.rows.more) >= self.most
+            self.left.take(one, is_left)
+            if not is_left:
                 self.rows.take(one)
                 self.shown = max(self.shown, one["number"])
-            else:
-                self.left.take(one)
         elif one["line"] == "connection":
             self.rows.ends[one["connection"]] = one.get("opener") or "?:0", one.get("acceptor") or "?:1"
         elif one["line"] == "end":

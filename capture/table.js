@@ -1,6 +1,6 @@
 // The table of operations.
 
-const SHOWN = 8, WIDE = 132, TALL = 18;
+const SHOWN = 8, WIDE = 100, TALL = 18;
 const OF_TABLE = [["Operation", ""], ["Object", ""], ["Requests", "number"], ["Answers", "number"], ["Repeats", "number"],
   ["No answer", "number"], ["Exceptions", "number"], ["50%", "number"], ["90%", "number"], ["99%", "number"],
   ["Greatest", "number"], ["Latencies", "bars"]];

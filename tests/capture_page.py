@@ -498,6 +498,17 @@ class Derived(unittest.TestCase):
         sizes = [len(one["body"]) // 2 for one in json.loads(block_in(self.made(*lines), "part0"))]
         self.assertEqual(sizes, [1 << 16] * 256 + [0] * 44)
 
+    def test_left(self):
+        """Of messages that are left out it is told which options bring how many of them, but for those that were given."""
+        lines = [*(asked(n) for n in range(1, 5)), *(asked(n, operation="get") for n in range(5, 9)), ENDED]
+        for words, ways in (([], [["giop-capture --operation get", 3], ["giop-capture --operation add", 1]]),
+                            (["--operation", "x"], [])):
+            made = "".join(page([*lines[:3], *lines[4:], lines[3], ENDED], "made", words, 4))
+            self.assertEqual(json.loads(block_in(made, "data"))["left"], {"count": 4, "after": 5, "ways": ways})
+        # (a page of 2 messages of this operation has none that is left out here)
+        made = "".join(page([*lines[:4], ENDED], "made", [], 2))
+        self.assertEqual(json.loads(block_in(made, "data"))["left"], {"count": 2, "after": 2, "ways": []})
+
     def test_values(self):
         """Values stand as `giop trace --types` prints them (docs/CLI.md), with all digits of numbers."""
         values = {"n": -(2 ** 63), "b": True, "s": "a", "l": [1, {"m": 2}], "u": {"case": 1, "member": "x", "value": 2},
@@ -556,9 +567,9 @@ class Many(Shown):
         ways = self.shown.value("[...document.querySelectorAll('#ways li')].map(it => it.textContent)")
         # (the last turn has 10 messages on the page: 11 answers message 10, a deposit, 12 and 13 are of audit, 14 of balance)
         made = "giop-capture 'my file' --page many.html "
-        self.assertEqual(ways, [made + "--operation audit 2 messages of them", made + "--operation deposit 1 message of them",
-                                made + "--operation balance 1 message of them", made + "--faults 1 message of them",
-                                made + "--unanswered 1 message of them"])
+        self.assertEqual(ways, [made + "--operation audit 2 of them", made + "--operation deposit 1 of them",
+                                made + "--operation balance 1 of them", made + "--faults 1 of them",
+                                made + "--unanswered 1 of them"])
         self.filter("unanswered")
         self.assertEqual(self.shown.value(text_of("#shown")), "13,333 of 100,000 messages")
         self.shown.value("location.hash = '#m50005'")
