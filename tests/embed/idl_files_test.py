@@ -33,8 +33,9 @@ TAKEN = 61
 # .. what declares all that another one declares, so that it is made in a folder of its own
 TWICE = "Naming.idl"
 # how many random files a seed stands for, how many declarations each of their modules has at most, and how many of them
-# each compiler of C++ and that of Rust are shown, which take most of the time, and with these mypy as packages
-COUNT, SIZE, FEW = 300, 2, 4
+# each compiler of C++ and that of Rust are shown, which take most of the time, and with these mypy as packages; with
+# ALL_FILES=1 in the environment all are shown, to g++ so many at once
+COUNT, SIZE, FEW, AT_ONCE = 300, 2, 4, 10
 # mypy keeps here what it knows of what all stand on
 KNOWN = os.path.join(FOLDER.name, "mypy")
 OF_C = ["-std=c11", "-Wall", "-Wextra", "-Wpedantic", "-Wshadow", "-Wconversion"]
@@ -189,6 +190,14 @@ class OmniOrb(unittest.TestCase):
             judge.rust(name)
 
 
+def shown(files: list[idl_random.File], seed: int) -> tuple[list[idl_random.File], list[tuple[str, list[idl_random.File]]]]:
+    """The files of these that C++ and Rust are shown, and those that a compiler of C++ is shown at once."""
+    if os.environ.get("ALL_FILES"):
+        return files, [("g++", files[at:at + AT_ONCE]) for at in range(0, len(files), AT_ONCE)]
+    some = random.Random(seed).sample(files, 3 * FEW)
+    return some, [("g++", some[:FEW]), ("clang++", some[FEW:2 * FEW])]
+
+
 @needs("omniidl", "gcc", "g++", "clang++", "mypy", "cargo-clippy")
 class Random(unittest.TestCase):
     """Random files, with -Wbpartial: interfaces of five levels, all kinds of types, words of each language."""
@@ -201,13 +210,14 @@ class Random(unittest.TestCase):
             files, folder = idl_random.random_files(seed, COUNT, SIZE), os.path.join(top, "made")
             ran = omniidl(idl_random.written(files, top), folder, "-Wbpartial," + ",".join(LANGUAGES))
             self.assertEqual(ran.returncode, 0, ran.stderr)
-            judge, some = Judge(folder), random.Random(seed).sample(files, 3 * FEW)
+            judge, (some, parts) = Judge(folder), shown(files, seed)
             numbers = {"", *(number_of(file.name) for file in some)}
             judge.python(lambda package: number_of(package) in numbers)
             judge.compiles("gcc", ".c", OF_C)
             judge.compiles("g++", ".h", OF_HEADERS)
-            for compiler, few in (("g++", some[:FEW]), ("clang++", some[FEW:2 * FEW])):
-                judge.compiles(compiler, ".hpp", OF_CPP, [f"{file.name}_idl.hpp" for file in few])
+            for compiler, few in parts:
+                with self.subTest(compiler, files=[file.name for file in few]):
+                    judge.compiles(compiler, ".hpp", OF_CPP, [f"{file.name}_idl.hpp" for file in few])
             judge.rust("random-files", {rust_name(one.name) for file in some for one in file.whole()})
 
 
