@@ -14,7 +14,7 @@ BASICS = {
     idltype.tk_boolean: "boolean", idltype.tk_char: "char", idltype.tk_octet: "octet", idltype.tk_short: "short",
     idltype.tk_ushort: "unsigned short", idltype.tk_long: "long", idltype.tk_ulong: "unsigned long",
     idltype.tk_longlong: "long long", idltype.tk_ulonglong: "unsigned long long", idltype.tk_float: "float",
-    idltype.tk_double: "double",
+    idltype.tk_double: "double", idltype.tk_any: "any",
 }
 NAMED = (idltype.tk_enum, idltype.tk_struct, idltype.tk_union)
 

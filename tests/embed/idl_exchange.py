@@ -21,7 +21,7 @@ import unittest
 from collections.abc import Iterable, Iterator
 from typing import Any, Dict, List, Optional, Tuple
 
-from tests.embed import idl_types
+from tests.embed import idl_anys, idl_types
 from tests.embed.idl_test import EMBED, EXAMPLES, ORB, compiled, lr, run
 from tests.programs import tool
 
@@ -156,6 +156,8 @@ class Values:
 
     def of(self, type: Type) -> Any:
         """A value of a type."""
+        if type == "any":
+            return idl_anys.random_any(self.dice)
         if isinstance(type, str):
             return BASICS[type].value(self.dice, None)
         return {"string": self.string, "sequence": self.sequence, "array": self.many, "reference": self.reference,
@@ -218,6 +220,8 @@ def plain(value: Any) -> Any:
     """A value that is equal to another one where these are the same to IDL."""
     if isinstance(value, lr.Ior):
         return value.type_id, value.addresses
+    if isinstance(value, lr.idl.Any):
+        return idl_anys.said(value)
     if isinstance(value, lr.idl.Union):
         return type(value), value._d, plain(value._v)
     if dataclasses.is_dataclass(value):

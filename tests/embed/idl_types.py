@@ -46,7 +46,8 @@ def real(name: str, letter: str) -> Kind:
 
 def text(bound: int) -> Kind:
     def value(dice: random.Random, module: Any) -> str:
-        return "".join(chr(dice.randint(1, 255)) for _ in range(dice.choice([0, dice.randrange(9), bound or 30])))
+        sizes = [0, dice.randint(0, min(8, bound or 8)), bound or 30]
+        return "".join(chr(dice.randint(1, 255)) for _ in range(dice.choice(sizes)))
 
     return Kind(f"string<{bound}>" if bound else "string", value)
 
