@@ -2,7 +2,7 @@
 
 Each operation with types is called with random arguments, results and exceptions through a relay over omniORB, which
 stands on what omniidl makes for it: by omniORB's stubs to our servants, and by ours to omniORB's. Relays of what is made
-in C and C++ stand before and behind that one. A seed chooses some of omniORB's files; with ALL_FILES=1 in the
+in C, C++ and Rust stand before and behind that one. A seed chooses some of omniORB's files; with ALL_FILES=1 in the
 environment Python and C are given all.
 """
 from __future__ import annotations
@@ -21,12 +21,12 @@ from collections.abc import Callable, Iterable, Iterator
 from typing import List, Optional
 
 from tests import base
-from tests.embed import idl_exchange, idl_files_test, idl_random
+from tests.embed import idl_exchange, idl_exchange_rust, idl_files_test, idl_random
 from tests.embed.idl_exchange import Declared, Exchange, OmniOrb, declared
 from tests.embed.idl_files_test import ENDPOINT, FOLDERS, TWICE, omniidl, want_files
 from tests.programs import needs
 
-# how many files of omniORB a seed chooses, and for C++, which compiles slowly, and how many random ones it makes
+# how many files of omniORB a seed chooses, and for C++ and Rust, which compile slowly, and how many random ones it makes
 FEW, FEWER, COUNT = 8, 1, 4
 # omniORB has the interfaces of this one as local objects
 LOCAL = "poa"
@@ -40,11 +40,11 @@ class Made:
     def __init__(self, files: List[Declared], *folders: str) -> None:
         top = tempfile.TemporaryDirectory(prefix="idl_exchange")
         atexit.register(top.cleanup)
-        self.files, self.folder = files, top.name
+        self.files, self.name = files, os.path.basename(top.name)
         self.omniorb = OmniOrb(os.path.join(top.name, "omniorb"), files, *folders)
         python = os.path.join(top.name, "python")
         self.made = python
-        ran = omniidl(self.omniorb.paths, python, "-Wbpartial,python,cpp,c")
+        ran = omniidl(self.omniorb.paths, python, "-Wbpartial,python,cpp,c,rust")
         if ran.returncode != 0:
             raise AssertionError(ran.stderr)
         sys.path.insert(0, python)
@@ -57,12 +57,17 @@ class Made:
     @functools.cached_property
     def in_cpp(self) -> List[str]:
         """.. and the one in C++."""
-        return [idl_exchange.in_cpp(self.files, self.made, f"relay{len(sys.path)}_cpp")]
+        return [idl_exchange.in_cpp(self.files, self.made, f"{self.name}_cpp")]
 
     @functools.cached_property
     def in_c(self) -> List[str]:
         """.. in C."""
-        return [idl_exchange.in_c(self.files, self.made, f"relay{len(sys.path)}_c")]
+        return [idl_exchange.in_c(self.files, self.made, f"{self.name}_c")]
+
+    @functools.cached_property
+    def in_rust(self) -> List[str]:
+        """.. in Rust."""
+        return [idl_exchange_rust.in_rust(self.files, self.made, f"{self.name}_rust")]
 
 
 def with_operations(paths: Iterable[str]) -> Iterator[Declared]:
@@ -125,7 +130,7 @@ class Python(unittest.TestCase):
 
 @needs("omniidl", "g++", "gcc")
 class Relays(unittest.TestCase):
-    """Servants and stubs in C and C++."""
+    """Servants and stubs in C, C++ and Rust."""
 
     @base.each_seed(1, 1)
     def test_c(self, seed: int) -> None:
@@ -136,6 +141,12 @@ class Relays(unittest.TestCase):
     def test_cpp(self, seed: int) -> None:
         """In C++, likewise."""
         self.exchanged(of_omniorb(seed, FEWER), seed, lambda made: made.in_cpp)
+
+    @needs("cargo")
+    @base.each_seed(1, 1)
+    def test_rust(self, seed: int) -> None:
+        """In Rust, likewise."""
+        self.exchanged(of_omniorb(seed, FEWER), seed, lambda made: made.in_rust)
 
     def exchanged(self, some: List[Made], seed: int, program: Callable[[Made], List[str]]) -> None:
         for made in some:
