@@ -281,7 +281,7 @@ def names_of_stub(one: model.Interface, unit: model.Unit) -> List[str]:
 
 def servant(one: model.Interface, unit: model.Unit) -> List[str]:
     """The servant of an interface, and how it is put on offer."""
-    name = poa(one.scope).rpartition("::")[2]
+    whole = poa(one.scope)
     lines = names_of_stub(one, unit)
     for operation in one.operations:
         asked = f"{IDL}Asking<{path(one.scope)}::_ops::{identifier(operation.name)}>"
@@ -294,22 +294,22 @@ def servant(one: model.Interface, unit: model.Unit) -> List[str]:
               "/* Puts those on offer whose keys begin so, before the loop is opened: the servant of a key, or null",
               " * where there is no such object. */",
               f"static {LR}Done _offer_family({LR}Loop& loop, {LR}Octets prefix,",
-              f"    std::function<{name}*({LR}Octets)> servant_of) {{",
+              f"    std::function<{whole}*({LR}Octets)> servant_of) {{",
               f"  {LR}Done done = loop.family(prefix, {{{ids}}},",
               f"      [servant_of]({LR}Octets key) {{ return servant_of(key) != nullptr; }});",
               "  return done ? _offer_operations(loop, prefix, servant_of) : done;", "}", "", "protected:",
-              *offering("_offer_own", name)]
+              *offering("_offer_own", whole)]
     for operation in one.operations:
-        lines += indented(offered(one, operation, name))
-    lines += ["  return done;", "}", "", "private:", *offering("_offer_operations", name)]
+        lines += indented(offered(one, operation, whole))
+    lines += ["  return done;", "}", "", "private:", *offering("_offer_operations", whole)]
     lines += [f"  if (done) done = {poa(base.scope)}::_offer_own(loop, key, servant_of);" for base in one.constructed]
     lines += ["  if (done) done = _offer_own(loop, key, servant_of);", "  return done;", "}"]
     heads = ", ".join(f"public virtual {poa(base.scope)}" for base in one.bases) or f"public virtual {IDL}Servant"
-    return [f"class {name} : {heads} {{", " public:", *indented(lines), "};", ""]
+    return [f"class {whole.rpartition('::')[2]} : {heads} {{", " public:", *indented(lines), "};", ""]
 
 
 def offering(function: str, name: str) -> List[str]:
-    """The head of a function that puts operations of a servant on offer."""
+    """The head of a function that puts operations of a servant on offer, whose whole name no parameter hides."""
     return [f"static {LR}Done {function}([[maybe_unused]] {LR}Loop& loop, [[maybe_unused]] {LR}Octets key,",
             f"    [[maybe_unused]] const std::function<{name}*({LR}Octets)>& servant_of) {{", f"  {LR}Done done;"]
 

@@ -410,6 +410,16 @@ struct one { _in two; };
 union _out switch (long) { case 1: one label; };
 interface Traits { void into(in long x); void from(in long x); void new(in long x); void clone(); };
 interface Shadows { void f(in long POLLIN, out More Numbers); void g(in long name); };
+module Offers {
+  interface loop { void f(); };
+  interface key : loop { void g(); };
+  interface prefix { void f(); };
+  interface done { void f(); };
+  interface servant_of { void f(); };
+  interface servant { void f(); };
+  interface call { void f(); };
+  interface caller { void f(); };
+};
 // types that hold themselves
 struct S;
 typedef sequence<S> Some;
