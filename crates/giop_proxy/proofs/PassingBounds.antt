@@ -10,11 +10,11 @@ use Rattle.giop_frames.specs.declared.fault.StreamFault.TheVariants.{MixedOrder,
 use Rattle.giop_frames.specs.declared.limits.Limits.{Limits}
 use Rattle.giop_frames.specs.Fragments.{content_of, is_same_order, payload_of}
 use Rattle.giop_frames.specs.Frames.{Frame, is_unaligned}
-use Rattle.giop_proxy.specs.declared.passing.coming.Part.{Part}
-use Rattle.giop_proxy.specs.declared.passing.coming.Told.{Told as ToldHere}
-use Rattle.giop_proxy.specs.declared.passing.keys.Key.{Key}
-use Rattle.giop_proxy.specs.declared.passing.joining.Role.{Role}
-use Rattle.giop_proxy.specs.declared.passing.joining.Role.TheVariants.{First, Next, Cancel, Alone}
+use Rattle.giop_proxy.specs.declared.passes.coming.Part.{Part}
+use Rattle.giop_proxy.specs.declared.passes.coming.Told.{Told as ToldHere}
+use Rattle.giop_proxy.specs.declared.passes.keys.Key.{Key}
+use Rattle.giop_proxy.specs.declared.passes.joining.Role.{Role}
+use Rattle.giop_proxy.specs.declared.passes.joining.Role.TheVariants.{First, Next, Cancel, Alone}
 use Rattle.giop_proxy.specs.Passing.{Splitting, is_long, octets_held}
 use Rattle.giop_proxy.specs.PassingMessages.{AreShort, AreWithin, Coming, Entry, Hearing, IsBounded, Step, Told, alone, at_fault, begun_by, continued_by, ended, first_fault, first_judged, first_step, forgotten, is_passed, judged, key_of, next_fault, next_found, next_judged, next_step, on_content, part_in, parts_held, role_of, step, step_as, told_held, without}
 use Rattle.giop_proxy.specs.PassingPrivate.{AreHeld, IsStep, entries, told_at}

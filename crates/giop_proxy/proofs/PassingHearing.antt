@@ -6,8 +6,8 @@ use Rattle.giop_core.specs.declared.header.Header.{Header}
 use Rattle.giop_frames.specs.declared.fault.StreamFault.{StreamFault}
 use Rattle.giop_frames.specs.declared.limits.Limits.{Limits}
 use Rattle.giop_frames.specs.Frames.{Frame}
-use Rattle.giop_proxy.specs.declared.passing.coming.Told.{Told as ToldHere}
-use Rattle.giop_proxy.specs.declared.passing.keys.Key.{Key}
+use Rattle.giop_proxy.specs.declared.passes.coming.Told.{Told as ToldHere}
+use Rattle.giop_proxy.specs.declared.passes.keys.Key.{Key}
 use Rattle.giop_proxy.specs.Passing.{FramesStand, IsFrameFault, Refuses, Splitting, fault_of, frames_of, given}
 use Rattle.giop_proxy.specs.PassingMessages.{Ends, Entry, Hearing, IsFault, Reading, StandsFor, Told, after_told, behind, reading_from, reading_of, step, told_of}
 use Rattle.giop_proxy.specs.PassingPrivate.{IsHeard, IsStep, framed, header_of_frame, told_at}

@@ -9,11 +9,11 @@ use Rattle.giop_frames.specs.declared.fault.StreamFault.TheVariants.{StrayFragme
 use Rattle.giop_frames.specs.declared.limits.Limits.{Limits}
 use Rattle.giop_frames.specs.Fragments.{payload_of}
 use Rattle.giop_frames.specs.Frames.{Frame, id_length}
-use Rattle.giop_proxy.specs.declared.passing.coming.Coming.{Coming as ComingHere}
-use Rattle.giop_proxy.specs.declared.passing.coming.Part.{Part}
-use Rattle.giop_proxy.specs.declared.passing.coming.Told.{Told as ToldHere}
-use Rattle.giop_proxy.specs.declared.passing.keys.Key.{Key}
-use Rattle.giop_proxy.specs.declared.passing.joining.Role.{Role}
+use Rattle.giop_proxy.specs.declared.passes.coming.Coming.{Coming as ComingHere}
+use Rattle.giop_proxy.specs.declared.passes.coming.Part.{Part}
+use Rattle.giop_proxy.specs.declared.passes.coming.Told.{Told as ToldHere}
+use Rattle.giop_proxy.specs.declared.passes.keys.Key.{Key}
+use Rattle.giop_proxy.specs.declared.passes.joining.Role.{Role}
 use Rattle.giop_proxy.specs.PassingMessages.{Coming, Entry, Step, Told, added, at_fault, begun_by, continued_by, ended, first_fault, first_judged, first_step, forgotten, has_id, is_passed, judged, key_of, next_fault, next_found, next_judged, next_step, part_in, role_of, step, step_as, too_short, without}
 use Rattle.giop_proxy.specs.PassingPrivate.{IsStep, coming_at, entries, entry_at, frame_in, framed, told_at}
 use Rattle.giop_proxy.proofs.PassingKeys.{without-none}

@@ -3,9 +3,9 @@ use Rattle.std.proofs.Common.{◌≡◌, ℕ, suc, ◌+◌, ◌<◌, ◌≢◌, 
 use Rattle.std.specs.List.{position, position_from, remove}
 use Rattle.std.proofs.lemmas.Bool.{cases_eq, eq-eqb, ne_eqb}
 use Rattle.std.proofs.lemmas.Iterator.Adapters.{position_from-zero}
-use Rattle.giop_proxy.specs.declared.passing.coming.Part.{Part}
-use Rattle.giop_proxy.specs.declared.passing.keys.Key.{Key}
-use Rattle.giop_proxy.specs.declared.passing.keys.Key.TheVariants.{Of11, Of12}
+use Rattle.giop_proxy.specs.declared.passes.coming.Part.{Part}
+use Rattle.giop_proxy.specs.declared.passes.keys.Key.{Key}
+use Rattle.giop_proxy.specs.declared.passes.keys.Key.TheVariants.{Of11, Of12}
 use Rattle.giop_proxy.specs.PassingMessages.{Entry, forgotten, is_key, is_passed, part_in, without}
 use Rattle.giop_proxy.specs.PassingPrivate.{coming_at, entries, entry_at}
 

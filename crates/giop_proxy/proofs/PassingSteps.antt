@@ -9,7 +9,7 @@ use Rattle.giop_frames.specs.declared.fault.StreamFault.{StreamFault}
 use Rattle.giop_frames.specs.declared.fault.StreamFault.TheVariants.{Header as BadHeader, TooLarge, UnalignedFragment, StrayFragment, TwiceStarted, TooManyPartial, Body, MixedOrder, Memory, Failed}
 use Rattle.giop_frames.specs.declared.limits.Limits.{Limits}
 use Rattle.giop_frames.specs.Frames.{Frame, Refused, Waiting, Whole}
-use Rattle.giop_proxy.specs.declared.passing.looking.Seen.{Seen}
+use Rattle.giop_proxy.specs.declared.passes.looking.Seen.{Seen}
 use Rattle.giop_proxy.specs.Passing.{FramesStand, IsFrameFault, OnHeaderFault, Refuses, Split, Splitting, fault_of, frames_of, given, kept_size, octets_held, over_size, sight, split, split_from, under_header}
 use Rattle.giop_proxy.specs.PassingPrivate.{IsExact, IsFront, IsKept, IsPassed, IsRefused, IsSplitting, Needs, NeedsAsSeen, Stops, frame_at, framed, pending_at, sight_at}
 use Rattle.giop_proxy.proofs.PassingSights.{kept-within, needs-nothing, needs-waits, sight-headed, sight-short, test_lt, until, waiting-within}

@@ -18,10 +18,10 @@ use Rattle.giop_frames.specs.declared.fault.StreamFault.TheVariants.{Body, Mixed
 use Rattle.giop_frames.specs.declared.limits.Limits.{Limits}
 use Rattle.giop_frames.specs.Fragments.{content_of, id_of, is_same_order, payload_of}
 use Rattle.giop_frames.specs.Frames.{Frame, frame_size, is_unaligned}
-use Rattle.giop_proxy.specs.declared.passing.keys.Key.{Key}
-use Rattle.giop_proxy.specs.declared.passing.keys.Key.TheVariants.{Of11, Of12}
-use Rattle.giop_proxy.specs.declared.passing.joining.Role.{Role}
-use Rattle.giop_proxy.specs.declared.passing.joining.Role.TheVariants.{First, Next, Cancel, Alone}
+use Rattle.giop_proxy.specs.declared.passes.keys.Key.{Key}
+use Rattle.giop_proxy.specs.declared.passes.keys.Key.TheVariants.{Of11, Of12}
+use Rattle.giop_proxy.specs.declared.passes.joining.Role.{Role}
+use Rattle.giop_proxy.specs.declared.passes.joining.Role.TheVariants.{First, Next, Cancel, Alone}
 use Rattle.giop_proxy.specs.Passing.{FramesStand, OnHeaderFault, Splitting, fault_of, frames_of, given, is_long, octets_held}
 
 -- GIOP 9.4.9: what a frame is of a message that is cut; a CancelRequest drops what has come of its message (own rule)

@@ -6,14 +6,14 @@ use Rattle.giop_core.specs.declared.header.Header.{Header}
 use Rattle.giop_frames.specs.declared.fault.StreamFault.{StreamFault}
 use Rattle.giop_frames.specs.declared.limits.Limits.{Limits}
 use Rattle.giop_frames.specs.Frames.{Frame, Sight, Refused, Waiting, Whole}
-use Rattle.giop_proxy.specs.declared.passing.looking.Seen.{Seen}
-use Rattle.giop_proxy.specs.declared.passing.looking.Seen.TheVariants.{Waiting as SeenWaiting, Kept as SeenKept, Refused as SeenRefused}
+use Rattle.giop_proxy.specs.declared.passes.looking.Seen.{Seen}
+use Rattle.giop_proxy.specs.declared.passes.looking.Seen.TheVariants.{Waiting as SeenWaiting, Kept as SeenKept, Refused as SeenRefused}
 use Rattle.giop_core.specs.declared.message.Places.{Places}
 use Rattle.giop_core.specs.Places.{ArePlacesOf}
-use Rattle.giop_proxy.specs.declared.passing.coming.Coming.{Coming as ComingHere}
-use Rattle.giop_proxy.specs.declared.passing.coming.Part.{Part}
-use Rattle.giop_proxy.specs.declared.passing.coming.Told.{Told as ToldHere}
-use Rattle.giop_proxy.specs.declared.passing.keys.Key.{Key}
+use Rattle.giop_proxy.specs.declared.passes.coming.Coming.{Coming as ComingHere}
+use Rattle.giop_proxy.specs.declared.passes.coming.Part.{Part}
+use Rattle.giop_proxy.specs.declared.passes.coming.Told.{Told as ToldHere}
+use Rattle.giop_proxy.specs.declared.passes.keys.Key.{Key}
 use Rattle.giop_proxy.specs.PassingMessages.{AreWithin, Coming, Entry, Hearing, StandsFor, Step, Told, told_held, told_of}
 use Rattle.giop_proxy.specs.Passing.{OnHeaderFault, Splitting, octets_held, given, kept_size, sight, split_from}
 

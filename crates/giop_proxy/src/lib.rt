@@ -9,9 +9,13 @@
 mod cutting;
 mod fields;
 mod finishing;
-pub mod passing;
+pub mod laws;
+mod passes;
 mod placed;
 pub mod placing_laws;
+
+// what is told of the messages of a stream
+pub use passes::{Frames, Passing};
 
 // a message whose body stands at a place
 pub use fields::PADDING;

@@ -3,7 +3,7 @@
 use crate::passing::{LIMITS, feed_all};
 use crate::rows::Told;
 use giop_frames::StreamFault;
-use giop_proxy::passing::Frames;
+use giop_proxy::Frames;
 use std::alloc::{AllocError, Global};
 use std::process::Abort;
 use std::test::Fail;

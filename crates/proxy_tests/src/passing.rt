@@ -2,7 +2,7 @@
 
 use crate::rows::{ROWS, Row, Told};
 use giop_frames::{Cuts, Limits, StreamFault};
-use giop_proxy::passing::Passing;
+use giop_proxy::Passing;
 use std::alloc::{AllocError, Global};
 use std::process::Abort;
 use std::test::Fail;
@@ -169,35 +169,48 @@ fn what_is_known_of_a_request_at_fault(rt: HostRuntime) {
     }
 }
 
-/// A Reply of 1.2 of id 6, whole, the first frame of one of id 5 that is cut, and its last Fragment.
-const WHOLE: &[u8; 24] =
-    b"GIOP\x01\x02\x00\x01\x00\x00\x00\x0c\x00\x00\x00\x06\x00\x00\x00\x00\x00\x00\x00\x00";
-
-const FIRST: &[u8; 24] =
-    b"GIOP\x01\x02\x02\x01\x00\x00\x00\x0c\x00\x00\x00\x05\x00\x00\x00\x00\x00\x00\x00\x00";
-
-const LAST: &[u8; 20] = b"GIOP\x01\x02\x00\x07\x00\x00\x00\x08\x00\x00\x00\x05\x01\x02\x03\x04";
-
-/// Whether a piece is taken whole, and how many octets are held then, of how many messages that are partial, and whether
-/// within a frame.
-fn holds(passing: &mut Passing, piece: &[u8], held: usize, partial: usize, is_amid: bool) -> bool {
-    passing.feed(piece) == Ok(piece.len())
-        && passing.held() == held
-        && passing.partial() == partial
-        && passing.is_amid() == is_amid
-}
+/// Pieces, and how many octets are held behind each, of how many messages that are partial, and whether within a frame: a
+/// Reply of 1.2 of id 6; the first frame of one of id 5 that is cut; the one of id 6 again; and the last Fragment of id 5.
+static PIECES: [(&[u8], usize, usize, bool); 10] = [
+    (b"GIOP\x01\x02\x00\x01\x00", 9, 0, true),
+    (
+        b"\x00\x00\x0c\x00\x00\x00\x06\x00\x00\x00\x00\x00\x00\x00",
+        23,
+        0,
+        true,
+    ),
+    (b"\x00", 24, 0, false),
+    (b"", 0, 0, false),
+    (
+        b"GIOP\x01\x02\x02\x01\x00\x00\x00\x0c\x00\x00\x00\x05\x00\x00\x00\x00\x00\x00\x00\x00",
+        24,
+        1,
+        false,
+    ),
+    (b"GIOP\x01\x02\x00\x01\x00\x00\x00\x0c\x00", 37, 1, true),
+    (
+        b"\x00\x00\x06\x00\x00\x00\x00\x00\x00\x00\x00",
+        48,
+        1,
+        false,
+    ),
+    (
+        b"GIOP\x01\x02\x00\x07\x00\x00\x00\x08\x00\x00\x00\x05\x01\x02",
+        42,
+        1,
+        true,
+    ),
+    (b"\x03\x04", 28, 0, false),
+    (b"", 0, 0, false),
+];
 
 #[test]
 fn what_is_held_is_known(rt: HostRuntime) {
     let mut passing = Passing::new(rt.alloc(), LIMITS);
-    assert!(rt; holds(&mut passing, &WHOLE[..9], 9, 0, true));
-    assert!(rt; holds(&mut passing, &WHOLE[9..23], 23, 0, true));
-    assert!(rt; holds(&mut passing, &WHOLE[23..], 24, 0, false));
-    assert!(rt; holds(&mut passing, b"", 0, 0, false));
-    assert!(rt; holds(&mut passing, FIRST, 24, 1, false));
-    assert!(rt; holds(&mut passing, &WHOLE[..13], 37, 1, true));
-    assert!(rt; holds(&mut passing, &WHOLE[13..], 48, 1, false));
-    assert!(rt; holds(&mut passing, &LAST[..18], 42, 1, true));
-    assert!(rt; holds(&mut passing, &LAST[18..], 28, 0, false));
-    assert!(rt; holds(&mut passing, b"", 0, 0, false));
+    for (piece, held, partial, is_amid) in &PIECES {
+        assert!(rt; passing.feed(piece) == Ok(piece.len()));
+        assert_eq!(rt; passing.held(), *held);
+        assert_eq!(rt; passing.partial(), *partial);
+        assert_eq!(rt; passing.is_amid(), *is_amid);
+    }
 }

@@ -1,5 +1,0 @@
-use Rattle.giop_proxy.proofs.PassingFrames.{the-ones}
-use Rattle.giop_proxy.proofs.passing.laws.streams_are_frames.Goals as goal
-
-pub returns : goal.returns
-returns c = the-ones
