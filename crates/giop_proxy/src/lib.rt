@@ -15,7 +15,8 @@ mod placed;
 pub mod placing_laws;
 
 // what is told of the messages of a stream
-pub use passes::{Frames, Passing};
+pub use passes::Passing;
+pub use passes::splitting::Frames;
 
 // a message whose body stands at a place
 pub use fields::PADDING;
