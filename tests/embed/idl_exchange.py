@@ -499,7 +499,9 @@ def in_cpp(files: List[Declared], folder: str, name: str) -> str:
     lines: List[str] = []
     for one in {each: one for file in files for each, one in file.interfaces.items()}.values():
         some = bodies[re.sub(r"\W", "_", base_of(one.file)) + "_idl.hpp"]
-        body = some.pop(next(at for at, each in enumerate(some) if each.startswith(f"class {one.cpp[-1]} ")))
+        # (POA_ stands before the outermost name)
+        own = one.cpp[-1] if len(one.cpp) > 1 else f"POA_{one.cpp[0]}"
+        body = some.pop(next(at for at, each in enumerate(some) if each.startswith(f"class {own} ")))
         classes[one.name] = f"Relay_{len(classes)}"
         heads = [f"::POA_{'::'.join(one.cpp)}", *(classes[base] for base in one.bases), "Relay"]
         lines += [f"class {classes[one.name]} : {', '.join(f'public virtual {head}' for head in heads)} {{", " public:",

@@ -3,7 +3,7 @@
 Each operation with types is called with random arguments, results and exceptions through a relay over omniORB, which
 stands on what omniidl makes for it: by omniORB's stubs to our servants, and by ours to omniORB's. Relays of what is made
 in C, C++ and Rust stand before and behind that one. A seed chooses some of omniORB's files; with ALL_FILES=1 in the
-environment Python and C are given all.
+environment each language is given all.
 """
 from __future__ import annotations
 
@@ -78,9 +78,9 @@ def with_operations(paths: Iterable[str]) -> Iterator[Declared]:
                 yield file
 
 
-def chosen() -> Optional[int]:
-    """How many files of omniORB are chosen; None: all."""
-    return None if os.environ.get("ALL_FILES") else FEW
+def chosen(count: int = FEW) -> Optional[int]:
+    """How many files of omniORB are chosen, where that is not all: None."""
+    return None if os.environ.get("ALL_FILES") else count
 
 
 @functools.lru_cache(maxsize=None)
@@ -140,13 +140,13 @@ class Relays(unittest.TestCase):
     @base.each_seed(1, 1)
     def test_cpp(self, seed: int) -> None:
         """In C++, likewise."""
-        self.exchanged(of_omniorb(seed, FEWER), seed, lambda made: made.in_cpp)
+        self.exchanged(of_omniorb(seed, chosen(FEWER)), seed, lambda made: made.in_cpp)
 
     @needs("cargo")
     @base.each_seed(1, 1)
     def test_rust(self, seed: int) -> None:
         """In Rust, likewise."""
-        self.exchanged(of_omniorb(seed, FEWER), seed, lambda made: made.in_rust)
+        self.exchanged(of_omniorb(seed, chosen(FEWER)), seed, lambda made: made.in_rust)
 
     def exchanged(self, some: List[Made], seed: int, program: Callable[[Made], List[str]]) -> None:
         for made in some:
