@@ -35,7 +35,8 @@ CRATES = {
 # those of them that are proved
 PROVED = ("GIOP", "ECHO_SERVER")
 # the crates of test functions, each of a floor
-TEST_CRATES = ["cdr_tests", "giop_tests", "frames_tests", "link_tests", "log_tests", "client_tests", "orb_tests", "uses_tests"]
+TEST_CRATES = ["cdr_tests", "giop_tests", "frames_tests", "proxy_tests", "link_tests", "log_tests", "client_tests",
+               "orb_tests", "uses_tests"]
 # how the reason begins for which a test is skipped that a tool of this machine is missing for
 NEEDS = "this needs "
 # how the names of a program end that `rt ci` builds by its two compilers
